@@ -1,0 +1,3 @@
+//! The calculators of the mill: quantities and cards.
+
+pub mod forms;

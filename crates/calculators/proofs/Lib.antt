@@ -1,2 +1,5 @@
 pub mod Masks
 pub mod Shapes
+pub mod Integers
+pub mod QuantityLaws
+pub mod CardLaws

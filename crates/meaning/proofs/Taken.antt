@@ -1,7 +1,7 @@
 -- Over a table of taken figures, every figure that a lawful calculator tells of an output is taken.
 use mathlib.Core.Path.{_≡_, sym, subst}
 use mathlib.Core.Bool.{true}
-use mathlib.Core.List.{List, [], _∷_, map}
+use mathlib.Core.List.{List, [], _∷_}
 use mathlib.Core.Logic.{⊎-elim}
 use Prim.Native.Nat.{ℕ, _<_}
 use native.Mathlib.Omega.{arith}
@@ -10,22 +10,23 @@ use lib.ListN.{length, getD, length-map}
 use Rattle.std.specs.shelf.Lists.{All}
 use Rattle.std.specs.declared.result.Result.the-variants.{Ok}
 use Rattle.std.proofs.shelf.Lists.{getD-past}
-use Rattle.std.proofs.shelf.Elements.{all-getD, all-from-getD, all-map}
+use Rattle.std.proofs.shelf.Elements.{all-getD, all-map}
 use Rattle.std.proofs.shelf.Tests.{cases-lt, cond-both}
 use Rattle.meaning.specs.Calc.{Answer, gives, faults, Calc, CalcLaws, Proper, inputPlaces, inputFigures, figureAt, told, tells}
+
+-- What holds of each element and of the default holds of what is read, past the end too.
+pub all-read : {X : Type 0} (P : X → Type 0) (xs : List X) (i : ℕ) (d : X) → All P xs → P d → P (getD xs i d)
+all-read P xs i d all default =
+    ⊎-elim (λ h. all-getD P xs i d h all) (λ h. subst P (sym (getD-past xs i d h)) default) (cases-lt i (length xs))
 
 module _ {F : Type 0} (m : Calc F) (laws : CalcLaws m) where
   abbrev Takes : F → Type 0
   Takes x = m .takes x ≡ true
 
-  -- A read of a table of taken figures gives a taken one, past its end too.
-  read-taken : (table : List F) (cell : ℕ) → All Takes table → Takes (getD table cell (m .start))
-  read-taken table cell all =
-      ⊎-elim (λ h. all-getD Takes table cell (m .start) h all) (λ h. subst Takes (sym (getD-past table cell (m .start) h)) (laws .start-taken)) (cases-lt cell (length table))
-
+  -- The figure at any place of a taken table is taken.
   figure-taken : (table : List F) (places : List ℕ) (i : ℕ) → All Takes table → Takes (figureAt (m .start) table places i)
   figure-taken table places i all =
-      cond-both (ltb i (length places)) _ _ Takes (λ _. read-taken table (getD places i 0) all) (λ _. laws .start-taken)
+      cond-both (ltb i (length places)) _ _ Takes (λ _. all-read Takes table (getD places i 0) (m .start) all (laws .start-taken)) (λ _. laws .start-taken)
 
   every-figure-taken : (table : List F) (places is : List ℕ) → All Takes table → All (λ i. Takes (figureAt (m .start) table places i)) is
   every-figure-taken table places [] all = tt

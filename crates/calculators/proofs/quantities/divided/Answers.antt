@@ -1,0 +1,8 @@
+use native.Mathlib.Omega.{arith}
+use borrow.Author.Needs.{needs}
+use Rattle.std.proofs.shelf.Signed.{ints, toZ-ofZ}
+use Rattle.std.proofs.shelf.Ways.{tells}
+use Rattle.calculators.proofs.quantities.divided.Needs as need
+
+pub returns : need.returns
+returns c = grind (arith, toZ-ofZ, tells)

@@ -6,8 +6,6 @@ use lib.Dec.{eqb}
 use lib.IntN.{ℤ, pos, negsuc, natAbs, _+ℤ_, _-ℤ_, _*ℤ_}
 use lib.ListN.{getD}
 use lib.Signed.{leZ, ltZ, quotZ}
-use Rattle.std.specs.declared.result.Result.{Result}
-use Rattle.std.specs.declared.result.Result.the-variants.{Ok, Err}
 use Rattle.meaning.specs.Calc.{Answer, gives, faults, Calc}
 use Rattle.calculators.specs.declared.forms.Form.{Form}
 use Rattle.calculators.specs.declared.quantities.QuantityFault.{QuantityFault}
@@ -89,23 +87,3 @@ quantityForms =
 -- The quantity calculator's meaning.
 abbrev pub quantities : Calc ℤ
 quantities = formed quantityForms (pos 0) isQuantity quantityAnswer
-
--- The inputs of a way of a sum or a product, among the figures at a, b and c.
-abbrev pub inputsAmong : ℕ → ℤ → ℤ → ℤ → List ℤ
-inputsAmong zero a b c = a ∷ b ∷ []
-inputsAmong (suc zero) a b c = b ∷ c ∷ []
-inputsAmong (suc (suc zero)) a b c = a ∷ c ∷ []
-inputsAmong (suc (suc (suc way))) a b c = a ∷ b ∷ c ∷ []
-
--- The answer over the figures at the first three places, of which the way takes its inputs.
-abbrev pub byPlaces : ℕ → ℕ → ℤ → ℤ → ℤ → ℤ → Answer ℤ
-byPlaces zero way p a b c = entry way p []
-byPlaces (suc zero) way p a b c = sum way p (inputsAmong way a b c)
-byPlaces (suc (suc zero)) way p a b c = product way p (inputsAmong way a b c)
-byPlaces (suc (suc (suc zero))) way p a b c = limit way p (a ∷ [])
-byPlaces (suc (suc (suc (suc kind)))) way p a b c = faultsBy NoSuchWay
-
--- A figure or a fault, as the answer of a way.
-abbrev pub answerOf : Result ℤ QuantityFault → Answer ℤ
-answerOf (Ok z) = gives (λ _. z)
-answerOf (Err fault) = faultsBy fault

@@ -1,8 +1,10 @@
 //! The card calculator: codes, and cards of three codes; entry and pack.
 
 ghost use mathlib.Core.Path.{_≡_};
+ghost use mathlib.Core.Bool.{true};
 ghost use Rattle.meaning.specs.Calc.{told};
-ghost use Rattle.calculators.specs.Cards.{isCode, cardFaultNumber, unpack, pack, cards};
+ghost use Rattle.calculators.specs.Forms.{lawfulForms};
+ghost use Rattle.calculators.specs.Cards.{isCode, cardFaultNumber, unpack, pack, cardForms, cards};
 use crate::forms;
 use crate::forms::Form;
 use meaning::Calculator;
@@ -11,6 +13,7 @@ use meaning::figure_at;
 
 /// The kinds, by their numbers.
 pub const ENTRY: u8 = 0;
+
 pub const PACK: u8 = 1;
 
 /// The greatest code.
@@ -18,8 +21,16 @@ pub const GREATEST_CODE: u16 = 999;
 
 /// Kind by way: places, ways and output masks. Bit 0 of a mask is the card, bits 1 to 3 are furnish, coat and core.
 const FORMS: [Form; 2] = [
-    Form { places: 1, ways: 1, outputs: [0b0001, 0, 0, 0] },
-    Form { places: 4, ways: 2, outputs: [0b1110, 0b0001, 0, 0] },
+    Form {
+        places: 1,
+        ways: 1,
+        outputs: [0b0001, 0, 0, 0],
+    },
+    Form {
+        places: 4,
+        ways: 2,
+        outputs: [0b1110, 0b0001, 0, 0],
+    },
 ];
 
 /// A code, or a card of three codes.
@@ -59,6 +70,14 @@ impl CardFault {
     }
 }
 
+/// The table of the kinds' forms. It passes the test of a lawful table.
+pub fn card_forms() -> [Form; 2]
+    ensures value { λ r. ⌜ r ≡ cardForms ⌝ }
+    ensures lawful { λ r. ⌜ lawfulForms r ≡ true ⌝ }
+{
+    FORMS
+}
+
 /// Whether a number is a code.
 fn is_code(code: u16) -> bool
     ensures { λ r. ⌜ r ≡ isCode code ⌝ }
@@ -75,25 +94,33 @@ fn unpacked(card: CardFigure, output: u8) -> Result<CardFigure, Fault>
             furnish,
             coat,
             core,
-        } => Ok(CardFigure::Code(match output {
-            1 => furnish,
-            2 => coat,
-            _ => core,
-        })),
+        } => Ok(CardFigure::Code(
+            match output {
+                1 => furnish,
+                2 => coat,
+                _ => core,
+            },
+        )),
         CardFigure::Code(_) => Err(CardFault::Mismatch.told()),
     }
 }
 
 /// The card of three codes.
-fn packed(furnish: CardFigure, coat: CardFigure, core: CardFigure, output: u8) -> Result<CardFigure, Fault>
+fn packed(
+    furnish: CardFigure,
+    coat: CardFigure,
+    core: CardFigure,
+    output: u8,
+) -> Result<CardFigure, Fault>
     ensures { λ r. ⌜ r ≡ told (pack furnish coat core) output ⌝ }
 {
     match (furnish, coat, core) {
-        (CardFigure::Code(furnish), CardFigure::Code(coat), CardFigure::Code(core)) => Ok(CardFigure::Card {
-            furnish,
-            coat,
-            core,
-        }),
+        (CardFigure::Code(furnish), CardFigure::Code(coat), CardFigure::Code(core)) =>
+            Ok(CardFigure::Card {
+                furnish,
+                coat,
+                core,
+            }),
         _ => Err(CardFault::Mismatch.told()),
     }
 }

@@ -27,7 +27,11 @@ fn form_of(forms: &[Form], kind: u8) -> Form
     ensures { λ r. ⌜ r ≡ getD (now (forms .entry)) kind noForm ⌝ }
 {
     let kind = usize::from(kind);
-    if kind < forms.len() { forms[kind] } else { NO_FORM }
+    if kind < forms.len() {
+        forms[kind]
+    } else {
+        NO_FORM
+    }
 }
 
 /// The mask of a way, 0 where there is no such way.

@@ -1,5 +1,8 @@
 //! The calculators of the mill: quantities and cards.
 
-pub mod forms;
-pub mod quantities;
 pub mod cards;
+pub mod forms;
+pub mod laws;
+pub mod quantities;
+#[cfg(test)]
+mod tests;

@@ -1,11 +1,14 @@
 //! The quantity calculator: whole numbers in a range; entry, sum, product and limit.
 
 ghost use mathlib.Core.Path.{_≡_};
+ghost use mathlib.Core.Bool.{true};
 ghost use mathlib.Core.List.{[], _∷_};
 ghost use Prim.Native.Nat.{_^_, _≤_};
 ghost use lib.IntN.{pos, natAbs, _+ℤ_, _-ℤ_, _*ℤ_};
 ghost use lib.Signed.{quotZ};
-ghost use Rattle.calculators.specs.Quantities.{isQuantity, faultNumber, result, quotient, entry as entryOf, sum as sumOf, product as productOf, limit as limitOf, quantityForms, quantities, inputsAmong, byPlaces, answerOf};
+ghost use Rattle.calculators.specs.Forms.{lawfulForms};
+ghost use Rattle.calculators.specs.Quantities.{isQuantity, faultNumber, result, quotient, entry as entryOf, sum as sumOf, product as productOf, limit as limitOf, quantityForms, quantities};
+ghost use Rattle.calculators.specs.QuantitySteps.{answerOf, inputsAmong, byPlaces};
 use crate::forms;
 use crate::forms::Form;
 use meaning::Calculator;
@@ -14,20 +17,40 @@ use meaning::figure_at;
 
 /// The kinds, by their numbers.
 pub const ENTRY: u8 = 0;
+
 pub const SUM: u8 = 1;
+
 pub const PRODUCT: u8 = 2;
+
 pub const LIMIT: u8 = 3;
 
 /// The least and the greatest quantity.
 pub const LEAST: i64 = -1_000_000_000;
+
 pub const GREATEST: i64 = 1_000_000_000;
 
 /// Kind by way: places, ways and output masks. Bit 0 of a mask is place a, bit 1 place b, bit 2 place c.
 const FORMS: [Form; 4] = [
-    Form { places: 1, ways: 1, outputs: [0b001, 0, 0, 0] },
-    Form { places: 3, ways: 3, outputs: [0b100, 0b001, 0b010, 0] },
-    Form { places: 3, ways: 3, outputs: [0b100, 0b001, 0b010, 0] },
-    Form { places: 2, ways: 1, outputs: [0b010, 0, 0, 0] },
+    Form {
+        places: 1,
+        ways: 1,
+        outputs: [0b001, 0, 0, 0],
+    },
+    Form {
+        places: 3,
+        ways: 3,
+        outputs: [0b100, 0b001, 0b010, 0],
+    },
+    Form {
+        places: 3,
+        ways: 3,
+        outputs: [0b100, 0b001, 0b010, 0],
+    },
+    Form {
+        places: 2,
+        ways: 1,
+        outputs: [0b010, 0, 0, 0],
+    },
 ];
 
 /// Why a quantity way gives no figure.
@@ -57,9 +80,10 @@ impl QuantityFault {
     }
 }
 
-/// The table of the kinds' forms.
+/// The table of the kinds' forms. It passes the test of a lawful table.
 pub fn quantity_forms() -> [Form; 4]
-    ensures { λ r. ⌜ r ≡ quantityForms ⌝ }
+    ensures value { λ r. ⌜ r ≡ quantityForms ⌝ }
+    ensures lawful { λ r. ⌜ lawfulForms r ≡ true ⌝ }
 {
     FORMS
 }
@@ -75,7 +99,11 @@ fn is_quantity(z: i128) -> bool
 fn checked(z: i128) -> Result<i64, QuantityFault>
     ensures { λ r. ⌜ answerOf r ≡ result z ⌝ }
 {
-    if is_quantity(z) { Ok(z as i64) } else { Err(QuantityFault::NoQuantity) }
+    if is_quantity(z) {
+        Ok(z as i64)
+    } else {
+        Err(QuantityFault::NoQuantity)
+    }
 }
 
 /// The whole product of two numbers.
@@ -164,13 +192,7 @@ fn limit(way: u8, p: i64, a: i64) -> Result<i64, QuantityFault>
     ensures { λ r. ⌜ answerOf r ≡ limitOf way p (a ∷ []) ⌝ }
 {
     match way {
-        0 => {
-            if a < p {
-                Ok(1)
-            } else {
-                Ok(0)
-            }
-        }
+        0 => { if a < p { Ok(1) } else { Ok(0) } }
         _ => Err(QuantityFault::NoSuchWay),
     }
 }
@@ -232,9 +254,10 @@ pub impl Calculator for Quantities as QuantityCalculator {
         places: &[u8],
         _output: u8,
     ) -> Result<i64, Fault> {
-        let a = figure_at(0, table, places, 0);
-        let b = figure_at(0, table, places, 1);
-        let c = figure_at(0, table, places, 2);
+        let start = self.start();
+        let a = figure_at(start, table, places, 0);
+        let b = figure_at(start, table, places, 1);
+        let c = figure_at(start, table, places, 2);
         match answer(kind, way, p, a, b, c) {
             Ok(figure) => Ok(figure),
             Err(fault) => Err(Fault {

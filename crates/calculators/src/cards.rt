@@ -40,6 +40,9 @@ pub enum CardFigure {
     Card { furnish: u16, coat: u16, core: u16 },
 }
 
+/// The starting figure.
+pub const START: CardFigure = CardFigure::Code(0);
+
 /// Why a card way gives no figures.
 #[derive(Clone, Copy, PartialEq, Eq, Debug)]
 pub enum CardFault {
@@ -137,7 +140,7 @@ pub impl Calculator for Cards as CardCalculator {
     ghost meaning = { λ _. cards };
 
     fn start(&self) -> CardFigure {
-        CardFigure::Code(0)
+        START
     }
 
     fn takes(&self, figure: CardFigure) -> bool {
@@ -176,14 +179,13 @@ pub impl Calculator for Cards as CardCalculator {
         places: &[u8],
         output: u8,
     ) -> Result<CardFigure, Fault> {
-        let start = self.start();
         match (kind, way) {
             (ENTRY, 0) => Ok(p),
-            (PACK, 0) => unpacked(figure_at(start, table, places, 0), output),
+            (PACK, 0) => unpacked(figure_at(START, table, places, 0), output),
             (PACK, 1) => packed(
-                figure_at(start, table, places, 1),
-                figure_at(start, table, places, 2),
-                figure_at(start, table, places, 3),
+                figure_at(START, table, places, 1),
+                figure_at(START, table, places, 2),
+                figure_at(START, table, places, 3),
                 output,
             ),
             _ => Err(CardFault::NoSuchWay.told()),

@@ -50,21 +50,21 @@ fn has_bit(mask: u8, place: u8) -> bool
 }
 
 /// The number of places of a kind, 0 where the table has no such kind.
-pub fn place_count(forms: &[Form], kind: u8) -> u8
+pub(crate) fn place_count(forms: &[Form], kind: u8) -> u8
     ensures { λ r. ⌜ r ≡ placesOf (now (forms .entry)) kind ⌝ }
 {
     form_of(forms, kind).places
 }
 
 /// The number of ways of a kind, 0 where the table has no such kind.
-pub fn way_count(forms: &[Form], kind: u8) -> u8
+pub(crate) fn way_count(forms: &[Form], kind: u8) -> u8
     ensures { λ r. ⌜ r ≡ waysOf (now (forms .entry)) kind ⌝ }
 {
     form_of(forms, kind).ways
 }
 
 /// Whether a place is an output of a way of a kind; false where there is no such kind, way or place.
-pub fn is_output(forms: &[Form], kind: u8, way: u8, place: u8) -> bool
+pub(crate) fn is_output(forms: &[Form], kind: u8, way: u8, place: u8) -> bool
     ensures { λ r. ⌜ r ≡ outputOf (now (forms .entry)) kind way place ⌝ }
 {
     has_bit(mask_of(form_of(forms, kind).outputs, way), place)

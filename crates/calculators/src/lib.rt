@@ -1,8 +1,12 @@
 //! The calculators of the mill: quantities and cards.
 
 pub mod cards;
-pub mod forms;
+mod forms;
 pub mod laws;
 pub mod quantities;
+
+pub use forms::Form;
+pub use forms::WAYS;
+
 #[cfg(test)]
 mod tests;

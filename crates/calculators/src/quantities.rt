@@ -29,6 +29,9 @@ pub const LEAST: i64 = -1_000_000_000;
 
 pub const GREATEST: i64 = 1_000_000_000;
 
+/// The starting figure.
+pub const START: i64 = 0;
+
 /// Kind by way: places, ways and output masks. Bit 0 of a mask is place a, bit 1 place b, bit 2 place c.
 const FORMS: [Form; 4] = [
     Form {
@@ -222,7 +225,7 @@ pub impl Calculator for Quantities as QuantityCalculator {
     ghost meaning = { λ _. quantities };
 
     fn start(&self) -> i64 {
-        0
+        START
     }
 
     fn takes(&self, figure: i64) -> bool {
@@ -254,10 +257,9 @@ pub impl Calculator for Quantities as QuantityCalculator {
         places: &[u8],
         _output: u8,
     ) -> Result<i64, Fault> {
-        let start = self.start();
-        let a = figure_at(start, table, places, 0);
-        let b = figure_at(start, table, places, 1);
-        let c = figure_at(start, table, places, 2);
+        let a = figure_at(START, table, places, 0);
+        let b = figure_at(START, table, places, 1);
+        let c = figure_at(START, table, places, 2);
         match answer(kind, way, p, a, b, c) {
             Ok(figure) => Ok(figure),
             Err(fault) => Err(Fault {

@@ -1,4 +1,3 @@
-pub mod Masks
 pub mod Shapes
 pub mod Integers
 pub mod QuantityLaws

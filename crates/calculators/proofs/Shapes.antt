@@ -10,9 +10,9 @@ use lib.ListN.{length, getD, take, length-take}
 use lib.Seq.{getD-take}
 use Rattle.std.proofs.shelf.Tests.{and-parts, leb-true, ltb-true, eqb-true}
 use Rattle.meaning.specs.Calc.{Answer, KindLaws}
+use Rattle.meaning.proofs.MaskBits.{bit-below, some-bit}
 use Rattle.calculators.specs.declared.forms.Form.{Form}
-use Rattle.calculators.specs.Forms.{noForm, bit, every, lawfulMask, lawfulForm, lawfulForms, formed}
-use Rattle.calculators.proofs.Masks.{bit-below, some-bit}
+use Rattle.calculators.specs.Forms.{noForm, every, lawfulMask, lawfulForm, lawfulForms, formed}
 
 -- What passes at each element passes at the one that is read.
 every-at : {X : Type 0} (f : X → Bool) (xs : List X) (i : ℕ) (d : X) → every f xs ≡ true → i < length xs → f (getD xs i d) ≡ true

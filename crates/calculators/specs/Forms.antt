@@ -3,10 +3,11 @@
 use mathlib.Core.Path.{_≡_}
 use mathlib.Core.Bool.{Bool, true, _&&_}
 use mathlib.Core.List.{List, [], _∷_}
-use Prim.Native.Nat.{ℕ, _/_, _%_, _^_}
+use Prim.Native.Nat.{ℕ, _^_}
 use lib.Dec.{ltb, leb, eqb}
 use lib.ListN.{length, getD, take}
 use Rattle.meaning.specs.Calc.{Answer, Calc}
+use Rattle.meaning.specs.Masks.{bit}
 use Rattle.calculators.specs.declared.forms.Form.{Form}
 
 -- What a table reads as past its end: no places, no ways and no outputs.
@@ -18,10 +19,6 @@ placesOf forms kind = getD forms kind noForm .places
 
 abbrev pub waysOf : List Form → ℕ → ℕ
 waysOf forms kind = getD forms kind noForm .ways
-
--- Bit number `place` of a mask.
-abbrev pub bit : ℕ → ℕ → Bool
-bit mask place = eqb (mask / 2 ^ place % 2) 1
 
 -- Whether the place is an output: the way's mask has its bit.
 abbrev pub outputOf : List Form → ℕ → ℕ → ℕ → Bool

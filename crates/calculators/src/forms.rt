@@ -2,7 +2,9 @@
 
 ghost use mathlib.Core.Path.{_≡_};
 ghost use lib.ListN.{getD};
-ghost use Rattle.calculators.specs.Forms.{noForm, placesOf, waysOf, bit, outputOf};
+ghost use Rattle.calculators.specs.Forms.{noForm, placesOf, waysOf, outputOf};
+use meaning::masks::has_bit;
+use meaning::read_or;
 
 /// The number of ways that a kind has at most.
 pub const WAYS: usize = 4;
@@ -26,27 +28,14 @@ const NO_FORM: Form = Form {
 fn form_of(forms: &[Form], kind: u8) -> Form
     ensures { λ r. ⌜ r ≡ getD (now (forms .entry)) kind noForm ⌝ }
 {
-    let kind = usize::from(kind);
-    if kind < forms.len() {
-        forms[kind]
-    } else {
-        NO_FORM
-    }
+    read_or(forms, usize::from(kind), NO_FORM)
 }
 
 /// The mask of a way, 0 where there is no such way.
 fn mask_of(outputs: [u8; WAYS], way: u8) -> u8
     ensures { λ r. ⌜ r ≡ getD outputs way 0 ⌝ }
 {
-    let way = usize::from(way);
-    if way < WAYS { outputs[way] } else { 0 }
-}
-
-/// Whether a mask has the bit of a place.
-fn has_bit(mask: u8, place: u8) -> bool
-    ensures { λ r. ⌜ r ≡ bit mask place ⌝ }
-{
-    place < 8 && mask >> place & 1 == 1
+    read_or(&outputs, usize::from(way), 0)
 }
 
 /// The number of places of a kind, 0 where the table has no such kind.
@@ -67,5 +56,5 @@ pub(crate) fn way_count(forms: &[Form], kind: u8) -> u8
 pub(crate) fn is_output(forms: &[Form], kind: u8, way: u8, place: u8) -> bool
     ensures { λ r. ⌜ r ≡ outputOf (now (forms .entry)) kind way place ⌝ }
 {
-    has_bit(mask_of(form_of(forms, kind).outputs, way), place)
+    has_bit(u64::from(mask_of(form_of(forms, kind).outputs, way)), place)
 }

@@ -1,3 +1,4 @@
 pub mod Ranks
 pub mod Calc
+pub mod Masks
 pub mod Extremes

@@ -1,11 +1,11 @@
 //! What a ranking and a calculator are, for code that serves every one of them.
 
 ghost use mathlib.Core.Path.{_≡_};
-ghost use mathlib.Core.Bool.{Bool};
-ghost use mathlib.Core.List.{List};
-ghost use Prim.Native.Nat.{ℕ};
+ghost use lib.ListN.{getD};
 ghost use Rattle.meaning.specs.Ranks.{Ranks, RankLaws};
 ghost use Rattle.meaning.specs.Calc.{Calc, CalcLaws, figureAt, tells};
+
+pub mod masks;
 
 /// How the first of two strengths stands to the second.
 #[derive(Clone, Copy, PartialEq, Eq, Debug)]
@@ -84,20 +84,24 @@ pub trait Calculator {
         ensures { λ r. ⌜ r ≡ tells (meaning (now (self .entry))) kind way p (now (table .entry)) (now (places .entry)) output ⌝ };
 }
 
+/// The element at an index, or the default past the end.
+pub fn read_or<T: Copy>(items: &[T], i: usize, default: T) -> T
+    ensures { λ r. ⌜ r ≡ getD (now (items .entry)) i default ⌝ }
+{
+    if i >= items.len() {
+        return default;
+    }
+    items[i]
+}
+
 /// The figure at a place of a rule: that of the cell which the place names, or `start` where the list of places or the
 /// table is too short.
 pub fn figure_at<F: Copy>(start: F, table: &[F], places: &[u8], place: u8) -> F
     ensures { λ r. ⌜ r ≡ figureAt start (now (table .entry)) (now (places .entry)) place ⌝ }
 {
-    let i = usize::from(place);
-    if i >= places.len() {
-        return start;
-    }
-    let cell = usize::from(places[i]);
-    if cell < table.len() {
-        table[cell]
-    } else {
-        start
+    match places.get(usize::from(place)) {
+        Some(cell) => read_or(table, usize::from(*cell), start),
+        None => start,
     }
 }
 

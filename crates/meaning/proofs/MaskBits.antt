@@ -10,7 +10,7 @@ use lib.Dec.{eqb}
 use lib.Pow.{pow-mono}
 use Rattle.std.proofs.shelf.Bits.{shr-shr, shr-below}
 use Rattle.std.proofs.shelf.Tests.{cases-lt, eq-eqb}
-use Rattle.calculators.specs.Forms.{bit}
+use Rattle.meaning.specs.Masks.{bit}
 
 -- A mask has no bit from the first power of two above it on.
 pub no-bit : (mask n place : ℕ) → mask < 2 ^ n → n ≤ place → bit mask place ≡ false

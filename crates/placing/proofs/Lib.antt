@@ -1,0 +1,11 @@
+pub mod Single
+pub mod Marks
+pub mod Givers
+pub mod Complete
+pub mod Sound
+pub mod After
+pub mod Placing
+pub mod Settling
+pub mod Writing
+pub mod OneResult
+pub mod Steps

@@ -1,0 +1,94 @@
+use mathlib.Core.Path.{_≡_, refl, sym, ap, subst, _∙_}
+use mathlib.Core.Bool.{true, false}
+use mathlib.Core.List.{List}
+use Prim.Native.Nat.{ℕ, _+_, _≤_, _<_}
+use native.Mathlib.Omega.{arith}
+use borrow.Author.Needs.{needs}
+use lib.Bits.{bitAnd, bitOr}
+use lib.ListN.{length, getD, drop}
+use Rattle.std.proofs.shelf.Tests.{lt-ltb, le-ltb, eq-eqb, ne-eqb}
+use Rattle.std.specs.declared.option.Option.the-variants.{Some, None}
+use Rattle.placing.specs.declared.rules.Way.{Way}
+use Rattle.placing.specs.declared.rules.Mark.{Mark}
+use Rattle.placing.specs.declared.rules.Mark.the-variants.{PutOut, Tried}
+use Rattle.placing.specs.Board.{noWay, cellsOf, listed}
+use Rattle.placing.specs.Search.{freshCount, piled, rankIn}
+use Rattle.placing.proofs.Marks.{fresh-less}
+use Rattle.placing.proofs.Steps.{step-empty, step-over, step-out, step-try, moved, tries-spent, tries-barred, tries-leads, tries-fails}
+use Rattle.placing.proofs.search.+put_out+take_off+try_ways.Needs as need
+use Rattle.placing.proofs.search.+put_out+take_off+try_ways.Needs.{try-ways-then-search-way-eq0·in-None, try-ways-else-search-way-eq0}
+
+pub put-out-take-off-requires : need.put-out-take-off-requires
+put-out-take-off-requires t c κs =
+    let less : freshCount (c .with-mark-marks .result) + 1 ≡ freshCount (c .args .search .marks) = ap (λ (m : List Mark). freshCount m + 1) (c .with-mark-marks .ensures) ∙ fresh-less (c .args .search .marks) (c .args .x) PutOut refl (c .pre .fresh .0) in
+    search needs
+
+pub take-off-returns-then-pile-ge-PILE : need.take-off-returns-then-pile-ge-PILE
+take-off-returns-then-pile-ge-PILE t c =
+    step-empty (c .args .rules .now) (c .args .states .now) (rankIn (c .args .ranks .now)) (c .args .r) (c .args .search .pile .at) (c .args .search .pile .top) (c .args .search .marks) (c .args .search .taken) (omega (arith, c .args .search .pile .room, c .if-pile-ge-PILE .taken))
+
+pub take-off-returns-then-not-is-fresh : need.take-off-returns-then-not-is-fresh
+take-off-returns-then-not-is-fresh t c =
+    step-over (c .args .rules .now) (c .args .states .now) (rankIn (c .args .ranks .now)) (c .args .r) (c .args .search .pile .at) (c .args .search .pile .top) (c .args .search .marks) (c .args .search .taken) _ (omega (arith, c .args .search .pile .room, c .if-pile-ge-PILE .left)) (sym (c .if-not-is-fresh .ensures tt .value)) (c .take-off .ensures)
+
+pub take-off-returns-then-rank-of : need.take-off-returns-then-rank-of
+take-off-returns-then-rank-of t c =
+    let after = lt-ltb (rankIn (c .args .ranks .now) (c .args .r)) (rankIn (c .args .ranks .now) (getD (c .args .search .pile .at) (c .args .search .pile .top) 0)) (omega (arith, c .if-rank-of .taken, c .rank-of .ensures, c .rank-of-2 .ensures)) in
+    step-out (c .args .rules .now) (c .args .states .now) (rankIn (c .args .ranks .now)) (c .args .r) (c .args .search .pile .at) (c .args .search .pile .top) (c .args .search .marks) (c .args .search .taken) _ (omega (arith, c .args .search .pile .room, c .if-pile-ge-PILE .left)) (sym (c .if-not-is-fresh .ensures tt .value)) after (c .put-out .ensures)
+
+pub take-off-returns : need.take-off-returns
+take-off-returns t c =
+    let after = le-ltb (rankIn (c .args .ranks .now) (c .args .r)) (rankIn (c .args .ranks .now) (getD (c .args .search .pile .at) (c .args .search .pile .top) 0)) (omega (arith, c .if-rank-of .left, c .rank-of .ensures, c .rank-of-2 .ensures)) in
+    step-try (c .args .rules .now) (c .args .states .now) (rankIn (c .args .ranks .now)) (c .args .r) (c .args .search .pile .at) (c .args .search .pile .top) (c .args .search .marks) (c .args .search .taken) _ (omega (arith, c .args .search .pile .room, c .if-pile-ge-PILE .left)) (sym (c .if-not-is-fresh .ensures tt .value)) after (c .try-ways .ensures)
+
+pub try-ways-with-givers-pile-requires : need.try-ways-with-givers-pile-requires
+try-ways-with-givers-pile-requires t c κs =
+    omega (arith, c .cells-of .ensures .len, c .pre .room, fresh-less (c .args .search .marks) (c .args .x) PutOut refl (c .pre .fresh .0))
+
+pub try-ways-cast-i : need.try-ways-cast-i
+try-ways-cast-i t c = record { fits = omega (arith, c .loop-i-test .taken, c .way-count-i-end .ensures .bound) }
+
+pub try-ways-take-off-requires : need.try-ways-take-off-requires
+try-ways-take-off-requires t c κs =
+    let less : freshCount (c .with-mark-marks .result) + 1 ≡ freshCount (c .args .search .marks) = ap (λ (m : List Mark). freshCount m + 1) (c .with-mark-marks .ensures) ∙ fresh-less (c .args .search .marks) (c .args .x) (Tried (c .loop-i .i)) refl (c .pre .fresh .0) in
+    let room = c .with-givers-pile .ensures .room in
+    let few = c .cells-of .ensures .len in
+    search needs
+
+pub try-ways-returns-in-Some : need.try-ways-returns-in-Some
+try-ways-returns-in-Some t c =
+    let R = c .args .rules .now in
+    let S = c .args .states .now in
+    let K = rankIn (c .args .ranks .now) in
+    let ways = listed R (c .args .x) in
+    let pile = drop (c .args .search .pile .top) (c .args .search .pile .at) in
+    let way : c .way-at-way .result ≡ getD ways (c .loop-i .i) noWay = c .way-at-way .ensures ∙ ap (λ (y : ℕ). getD (listed R y) (c .loop-i .i) noWay) (c .from .ensures) in
+    let count : c .way-count-i-end .result ≡ length ways = c .way-count-i-end .ensures .value ∙ ap (λ (y : ℕ). length (listed R y)) (c .from .ensures) in
+    let free : bitAnd (c .args .search .taken) (getD ways (c .loop-i .i) noWay .mask) ≡ 0 = ap (λ (w : Way). bitAnd (c .args .search .taken) (w .mask)) (sym way) ∙ c .if-search-way-eq0 .taken in
+    let cells = c .cells-of .ensures .value ∙ ap cellsOf way in
+    let tried = moved R S K (c .args .r) (c .with-givers-pile .ensures .value ∙ ap (λ (cs : List ℕ). piled R S cs pile) cells) (c .with-mark-marks .ensures) (ap (λ (w : Way). bitOr (c .args .search .taken) (w .mask)) way) (c .in-Some .ensures tt) in
+    c .loop-i .inv (Some (c .in-Some .found)) (tries-leads R S K (c .args .r) (c .args .x) pile (c .args .search .marks) (c .args .search .taken) ways (c .loop-i .i) (c .in-Some .found) (omega (arith, count, c .loop-i-test .taken)) (eq-eqb _ 0 free) tried)
+
+pub try-ways-loop-i-again : need.try-ways-loop-i-again
+try-ways-loop-i-again t c o rest =
+    let R = c .args .rules .now in
+    let S = c .args .states .now in
+    let K = rankIn (c .args .ranks .now) in
+    let ways = listed R (c .args .x) in
+    let pile = drop (c .args .search .pile .top) (c .args .search .pile .at) in
+    let taken = c .args .search .taken in
+    let way : c .way-at-way .result ≡ getD ways (c .loop-i .i) noWay = c .way-at-way .ensures ∙ ap (λ (y : ℕ). getD (listed R y) (c .loop-i .i) noWay) (c .from .ensures) in
+    let count : c .way-count-i-end .result ≡ length ways = c .way-count-i-end .ensures .value ∙ ap (λ (y : ℕ). length (listed R y)) (c .from .ensures) in
+    let lt : c .loop-i .i < length ways = omega (arith, count, c .loop-i-test .taken) in
+    let masked = λ (w : Way). bitAnd taken (w .mask) in
+    c .loop-i .inv o (elim (c .if-search-way-eq0 .came) [
+      | try-ways-then-search-way-eq0·in-None w ↦ tries-fails R S K (c .args .r) (c .args .x) pile (c .args .search .marks) taken ways (c .loop-i .i) o lt (eq-eqb _ 0 (ap masked (sym way) ∙ w .if-search-way-eq0 .taken)) (moved R S K (c .args .r) (w .with-givers-pile .ensures .value ∙ ap (λ (cs : List ℕ). piled R S cs pile) (w .cells-of .ensures .value ∙ ap cellsOf way)) (w .with-mark-marks .ensures) (ap (λ (v : Way). bitOr taken (v .mask)) way) (w .in-None .ensures tt)) rest
+      | try-ways-else-search-way-eq0 w ↦ tries-barred R S K (c .args .r) (c .args .x) pile (c .args .search .marks) taken ways (c .loop-i .i) o lt (ne-eqb _ 0 (λ e. w .if-search-way-eq0 .left (ap masked way ∙ e))) rest
+    ])
+
+pub try-ways-returns : need.try-ways-returns
+try-ways-returns t c =
+    let R = c .args .rules .now in
+    let ways = listed R (c .args .x) in
+    let count : c .way-count-i-end .result ≡ length ways = c .way-count-i-end .ensures .value ∙ ap (λ (y : ℕ). length (listed R y)) (c .from .ensures) in
+    c .loop-i .inv None (tries-spent R (c .args .states .now) (rankIn (c .args .ranks .now)) (c .args .r) (c .args .x) (drop (c .args .search .pile .top) (c .args .search .pile .at)) (c .args .search .marks) (c .args .search .taken) ways (c .loop-i .i) (omega (arith, count, c .loop-i-test .left)))

@@ -1,0 +1,5 @@
+pub mod Board
+pub mod Choice
+pub mod Search
+pub mod Calls
+pub mod Laws

@@ -8,7 +8,7 @@ use lib.ListN.{getD}
 use Rattle.std.specs.shelf.Lists.{All}
 use Rattle.std.proofs.shelf.Tests.{and-parts, and-from}
 use Rattle.meaning.specs.Calc.{Answer, CalcLaws, Proper}
-use Rattle.meaning.proofs.Taken.{all-read}
+use Rattle.meaning.proofs.Lists.{all-read}
 use Rattle.calculators.specs.declared.cards.CardFigure.{CardFigure}
 use Rattle.calculators.specs.declared.cards.CardFigure.the-variants.{Code, Card}
 use Rattle.calculators.specs.Cards.{isCode, isCardFigure, codeAt, unpack, pack, cardAnswer, cardForms, cards}

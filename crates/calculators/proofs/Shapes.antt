@@ -1,24 +1,19 @@
 -- A table of forms that passes its test gives each of its kinds a lawful shape.
 use mathlib.Core.Path.{_≡_}
 use mathlib.Core.Bool.{Bool, true}
-use mathlib.Core.List.{List, [], _∷_}
-use Prim.Native.Nat.{ℕ, zero, suc, _≤_, _<_, _^_}
-use native.Mathlib.Nat.{le-of-suc-le-suc, not-suc-le-zero}
+use mathlib.Core.List.{List}
+use Prim.Native.Nat.{ℕ, _≤_, _<_, _^_}
 use native.Mathlib.Omega.{arith}
 use lib.Dec.{ltb, leb}
 use lib.ListN.{length, getD, take, length-take}
 use lib.Seq.{getD-take}
 use Rattle.std.proofs.shelf.Tests.{and-parts, leb-true, ltb-true, eqb-true}
 use Rattle.meaning.specs.Calc.{Answer, KindLaws}
+use Rattle.meaning.specs.Lists.{every}
+use Rattle.meaning.proofs.Lists.{every-at}
 use Rattle.meaning.proofs.MaskBits.{bit-below, some-bit}
 use Rattle.calculators.specs.declared.forms.Form.{Form}
-use Rattle.calculators.specs.Forms.{noForm, every, lawfulMask, lawfulForm, lawfulForms, formed}
-
--- What passes at each element passes at the one that is read.
-every-at : {X : Type 0} (f : X → Bool) (xs : List X) (i : ℕ) (d : X) → every f xs ≡ true → i < length xs → f (getD xs i d) ≡ true
-every-at f [] i d passed within = absurd (not-suc-le-zero within)
-every-at f (x ∷ xs) zero d passed within = and-parts (f x) (every f xs) passed .0
-every-at f (x ∷ xs) (suc i) d passed within = every-at f xs i d (and-parts (f x) (every f xs) passed .1) (le-of-suc-le-suc within)
+use Rattle.calculators.specs.Forms.{noForm, lawfulMask, lawfulForm, lawfulForms, formed}
 
 -- The parts of a lawful form, as facts.
 record Lawful (form : Form) : Type 0 where

@@ -7,6 +7,7 @@ use Prim.Native.Nat.{ℕ, _^_}
 use lib.Dec.{ltb, leb, eqb}
 use lib.ListN.{length, getD, take}
 use Rattle.meaning.specs.Calc.{Answer, Calc}
+use Rattle.meaning.specs.Lists.{every}
 use Rattle.meaning.specs.Masks.{bit}
 use Rattle.calculators.specs.declared.forms.Form.{Form}
 
@@ -35,11 +36,6 @@ formed forms start takes answer = record {
   output = outputOf forms;
   answer = answer;
 }
-
--- The test f passes at each element.
-abbrev pub every : {X : Type 0} → (X → Bool) → List X → Bool
-every f [] = true
-every f (x ∷ xs) = f x && every f xs
 
 -- A mask over so many places, with at least one of them.
 abbrev pub lawfulMask : ℕ → ℕ → Bool

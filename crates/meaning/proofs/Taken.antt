@@ -1,23 +1,17 @@
 -- Over a table of taken figures, every figure that a lawful calculator tells of an output is taken.
-use mathlib.Core.Path.{_≡_, sym, subst}
+use mathlib.Core.Path.{_≡_, subst}
 use mathlib.Core.Bool.{true}
 use mathlib.Core.List.{List, [], _∷_}
-use mathlib.Core.Logic.{⊎-elim}
 use Prim.Native.Nat.{ℕ, _<_}
 use native.Mathlib.Omega.{arith}
 use lib.Dec.{ltb}
 use lib.ListN.{length, getD, length-map}
 use Rattle.std.specs.shelf.Lists.{All}
 use Rattle.std.specs.declared.result.Result.the-variants.{Ok}
-use Rattle.std.proofs.shelf.Lists.{getD-past}
-use Rattle.std.proofs.shelf.Elements.{all-getD, all-map}
-use Rattle.std.proofs.shelf.Tests.{cases-lt, cond-both}
+use Rattle.std.proofs.shelf.Elements.{all-map}
+use Rattle.std.proofs.shelf.Tests.{cond-both}
+use Rattle.meaning.proofs.Lists.{all-read}
 use Rattle.meaning.specs.Calc.{Answer, gives, faults, Calc, CalcLaws, Proper, inputPlaces, inputFigures, figureAt, told, tells}
-
--- What holds of each element and of the default holds of what is read, past the end too.
-pub all-read : {X : Type 0} (P : X → Type 0) (xs : List X) (i : ℕ) (d : X) → All P xs → P d → P (getD xs i d)
-all-read P xs i d all default =
-    ⊎-elim (λ h. all-getD P xs i d h all) (λ h. subst P (sym (getD-past xs i d h)) default) (cases-lt i (length xs))
 
 module _ {F : Type 0} (m : Calc F) (laws : CalcLaws m) where
   abbrev Takes : F → Type 0

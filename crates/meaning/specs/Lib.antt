@@ -1,4 +1,5 @@
 pub mod Ranks
 pub mod Calc
+pub mod Lists
 pub mod Masks
 pub mod Extremes

@@ -5,21 +5,22 @@ use mathlib.Core.List.{List, [], _∷_}
 use mathlib.Core.Logic.{_⊎_, inl, inr, ⊎-elim}
 use Prim.Native.Nat.{ℕ, zero, suc, _≤_, _<_}
 use native.Mathlib.Omega.{arith}
-use native.Mathlib.Nat.{le-of-suc-le-suc}
 use lib.Bits.{bitAnd, and-zero-l, and-zero-r, and-comm}
 use lib.Dec.{leb, ltb, eqb}
 use lib.ListN.{length, getD, replicate, take, getD-replicate, length-replicate}
 use Rattle.std.specs.declared.option.Option.the-variants.{Some, None}
 use Rattle.std.proofs.shelf.Lists.{getD-past, getD-default}
 use Rattle.std.proofs.shelf.Tests.{both-ways, cases-lt, cases-bool, and-parts, eqb-true, ltb-true, lt-ltb}
+use Rattle.meaning.specs.Lists.{every}
 use Rattle.meaning.specs.Masks.{bit}
+use Rattle.meaning.proofs.Lists.{every-at}
 use Rattle.placing.specs.declared.rules.Way.{Way}
 use Rattle.placing.specs.declared.rules.Rule.{Rule}
 use Rattle.placing.specs.declared.rules.State.{State}
 use Rattle.placing.specs.declared.rules.State.the-variants.{Absent, Waiting, InForce}
 use Rattle.placing.specs.declared.rules.Mark.{Mark}
 use Rattle.placing.specs.declared.rules.Mark.the-variants.{PutOut, Fresh, Tried}
-use Rattle.placing.specs.Board.{noWay, noRule, cellsOf, maskOf, every, lawfulWay, lawfulRule, listed, wayMask, stateOf, isStanding, isInForce, isWaiting, givenBy, gives, listedBy, Apart}
+use Rattle.placing.specs.Board.{noWay, noRule, cellsOf, maskOf, lawfulWay, lawfulRule, listed, wayMask, stateOf, isStanding, isInForce, isWaiting, givenBy, gives, listedBy, Apart}
 use Rattle.placing.specs.Choice.{Choice, Choosable, WithBetter}
 use Rattle.placing.specs.Search.{isFresh, freshAt, marked, applied, Leads, Places}
 use Rattle.placing.specs.Laws.{IsBoard, Distinct, Placed}
@@ -27,14 +28,14 @@ use Rattle.placing.proofs.Givers.{InForceAt, On, mask-cell}
 use Rattle.placing.proofs.Sound.{Kept, leads-kept}
 
 -- Each state as its mark says.
-applied-at : (states : List State) (marks : List Mark) (x : ℕ) → length states ≡ length marks → getD (applied states marks) x Absent ≡ marked (getD states x Absent) (getD marks x Fresh)
+pub applied-at : (states : List State) (marks : List Mark) (x : ℕ) → length states ≡ length marks → getD (applied states marks) x Absent ≡ marked (getD states x Absent) (getD marks x Fresh)
 applied-at [] [] x e = refl
 applied-at [] (m ∷ marks) x e = absurd (omega arith)
 applied-at (s ∷ states) [] x e = refl
 applied-at (s ∷ states) (m ∷ marks) zero e = refl
 applied-at (s ∷ states) (m ∷ marks) (suc x) e = applied-at states marks x (omega arith)
 
-applied-length : (states : List State) (marks : List Mark) → length (applied states marks) ≡ length states
+pub applied-length : (states : List State) (marks : List Mark) → length (applied states marks) ≡ length states
 applied-length [] marks = refl
 applied-length (s ∷ states) [] = refl
 applied-length (s ∷ states) (m ∷ marks) = omega (arith, applied-length states marks)
@@ -45,11 +46,6 @@ in-force-small rules states e x h =
     ⊎-elim (λ k. omega arith) (λ k. absurd (both-ways _ (ap isInForce (getD-past states x Absent k)) h)) (cases-lt x (length states))
 
 -- Each bit of a listed way's mask is one of its outputs.
-every-at : {X : Type 0} (f : X → Bool) (xs : List X) (i : ℕ) (d : X) → every f xs ≡ true → i < length xs → f (getD xs i d) ≡ true
-every-at f [] i d passed within = absurd (omega arith)
-every-at f (x ∷ xs) zero d passed within = and-parts (f x) (every f xs) passed .0
-every-at f (x ∷ xs) (suc i) d passed within = every-at f xs i d (and-parts (f x) (every f xs) passed .1) (le-of-suc-le-suc within)
-
 pub listed-cells : (rules : List Rule) → ((x : ℕ) → lawfulRule (getD rules x noRule) ≡ true) → (x i c : ℕ) → i < length (listed rules x) → bit (wayMask rules x i) c ≡ true → On c (cellsOf (getD (listed rules x) i noWay))
 listed-cells rules lawful x i c lt h =
     let ways = and-parts _ _ (lawful x) .1 in

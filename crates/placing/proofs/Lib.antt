@@ -9,3 +9,5 @@ pub mod Settling
 pub mod Writing
 pub mod OneResult
 pub mod Steps
+pub mod RankNumbers
+pub mod Empty

@@ -116,6 +116,12 @@ module _ (rank : ℕ → ℕ) (distinct : Distinct rank) where
         settled = record { none = λ _ c. laws .fails u p c; some = λ f. absurd (force-not-waiting (stateOf s x) w f) };
       })
 
+  -- A pass leaves a board.
+  pub pass-board : {rules : List Rule} {k n : ℕ} {s t : List State} → Passes rules rank k n s t → IsBoard rules s → IsBoard rules t
+  pass-board Passes.end b = b
+  pass-board (Passes.skip none p) b = pass-board p b
+  pass-board {rules} {s = s} (Passes.place {x = x} {o = o} {u = u} lt e w p q) b = pass-board q (stepped rules s u x o b lt w p .board)
+
   -- If every rule before it was settled, every rule up to it is.
   pub step-settles : (rules : List Rule) (s u : List State) (x : ℕ) → x < 64 → Stepped rules s u rank x → ((z : ℕ) → rank z < rank x → SettledAt rules s rank z) → (z : ℕ) → rank z < suc (rank x) → SettledAt rules u rank z
   step-settles rules s u x lt step settled z h =

@@ -1,9 +1,10 @@
 -- The steps of a search over a pile that lies in an array and over ways by their index.
 use mathlib.Core.Path.{_≡_, refl, sym, ap, subst, _∙_}
-use mathlib.Core.Bool.{Bool, true, false}
+use mathlib.Core.Bool.{Bool, true, false, cond, _||_}
 use mathlib.Core.List.{List, [], _∷_}
-use Prim.Native.Nat.{ℕ, suc, _+_, _≤_, _<_}
+use Prim.Native.Nat.{ℕ, suc, _+_, _-_, _≤_, _<_}
 use native.Mathlib.Numerals.{add-one}
+use native.Mathlib.Omega.{arith}
 use lib.Bits.{bitAnd, bitOr}
 use lib.Dec.{ltb, eqb}
 use lib.ListN.{length, getD, set, drop}
@@ -13,10 +14,12 @@ use Rattle.std.proofs.shelf.Lists.{drop-more, drop-all}
 use Rattle.placing.specs.declared.rules.Way.{Way}
 use Rattle.placing.specs.declared.rules.Rule.{Rule}
 use Rattle.placing.specs.declared.rules.State.{State}
+use Rattle.placing.specs.declared.rules.State.the-variants.{Absent, Waiting, InForce}
 use Rattle.placing.specs.declared.rules.Mark.{Mark}
 use Rattle.placing.specs.declared.rules.Mark.the-variants.{PutOut, Tried}
-use Rattle.placing.specs.Board.{noWay, cellsOf, listed}
-use Rattle.placing.specs.Search.{freshAt, piled, Leads, Tries}
+use Rattle.placing.specs.Board.{noWay, cellsOf, listed, stateOf, isStanding, isWaiting, isInForce}
+use Rattle.placing.specs.Search.{freshAt, piled, Leads, Tries, Places}
+use Rattle.placing.specs.Calls.{Passes, PassesBehind, Adds, Removes, sameState, changedFrom}
 
 module _ (rules : List Rule) (states : List State) (rank : ℕ → ℕ) (r : ℕ) where
   -- The pile at `top` is the rule there on what lies behind it.
@@ -67,3 +70,73 @@ module _ (rules : List Rule) (states : List State) (rank : ℕ → ℕ) (r : ℕ
 
     pub tries-fails : (o : Option (List Mark)) → i < length ways → eqb (bitAnd taken (way .mask)) 0 ≡ true → Try None → TriesFrom (i + 1) o → TriesFrom i o
     tries-fails o lt b d t = at-way o lt (Tries.fails b d (next o t))
+
+-- The pass by ranks below 64.
+module _ (rules : List Rule) (rank : ℕ → ℕ) where
+  abbrev PassesFrom : ℕ → List State → List State → Type 0
+  PassesFrom k s t = Passes rules rank k (64 - k) s t
+
+  pub pass-end : (k : ℕ) (s : List State) → 64 ≤ k → PassesFrom k s s
+  pass-end k s le = subst (λ (n : ℕ). Passes rules rank k n s s) (zero-left k le) Passes.end
+    where
+      zero-left : (k : ℕ) → 64 ≤ k → 0 ≡ 64 - k
+      zero-left k le = omega arith
+
+  one-more : (k : ℕ) (s t : List State) → k < 64 → Passes rules rank k (suc (64 - suc k)) s t → PassesFrom k s t
+  one-more k s t lt p = subst (λ (n : ℕ). Passes rules rank k n s t) (count k lt) p
+    where
+      count : (k : ℕ) → k < 64 → suc (64 - suc k) ≡ 64 - k
+      count k lt = omega arith
+
+  further : (k : ℕ) (s t : List State) → PassesFrom (k + 1) s t → PassesFrom (suc k) s t
+  further k s t p = subst (λ (n : ℕ). PassesFrom n s t) (add-one k) p
+
+  pub pass-skip : (k : ℕ) (s t : List State) → k < 64 → ((x : ℕ) → x < 64 → rank x ≡ k → isWaiting (stateOf s x) ≡ false) → PassesFrom (k + 1) s t → PassesFrom k s t
+  pass-skip k s t lt none p = one-more k s t lt (Passes.skip none (further k s t p))
+
+  pub pass-place : (k x : ℕ) (o : Bool) (s u t : List State) → k < 64 → x < 64 → rank x ≡ k → isWaiting (stateOf s x) ≡ true → Places rules s rank x o u → PassesFrom (k + 1) u t → PassesFrom k s t
+  pass-place k x o s u t lt small e w p q = one-more k s t lt (Passes.place small e w p (further k u t q))
+
+  pub behind : (r from : ℕ) (s t : List State) → from ≡ rank r + 1 → PassesFrom from s t → PassesBehind rules rank r s t
+  behind r from s t e p =
+      let at : PassesFrom (suc (rank r)) s t = subst (λ (k : ℕ). PassesFrom k s t) (e ∙ add-one (rank r)) p in
+      subst (λ (n : ℕ). Passes rules rank (suc (rank r)) n s t) (count (rank r)) at
+    where
+      count : (k : ℕ) → 64 - suc k ≡ 63 - k
+      count k = omega arith
+
+-- The count of changed rules, one by one.
+pub changed-step : (r x : ℕ) (ss ts : List State) → x < length ss → x < length ts → changedFrom x r (drop x ss) (drop x ts) ≡ cond (eqb x r || sameState (getD ss x Absent) (getD ts x Absent)) 0 1 + changedFrom (x + 1) r (drop (x + 1) ss) (drop (x + 1) ts)
+changed-step r x ss ts hs ht =
+    ap (λ (us : List State). changedFrom x r us (drop x ts)) (drop-more ss x Absent hs) ∙ ap (changedFrom x r (getD ss x Absent ∷ drop (x + 1) ss)) (drop-more ts x Absent ht)
+    ∙ ap (λ (k : ℕ). cond (eqb x r || sameState (getD ss x Absent) (getD ts x Absent)) 0 1 + changedFrom k r (drop (x + 1) ss) (drop (x + 1) ts)) (sym (add-one x))
+
+pub changed-end : (r x : ℕ) (ss ts : List State) → length ss ≤ x → changedFrom x r (drop x ss) (drop x ts) ≡ 0
+changed-end r x ss ts le = ap (λ (us : List State). changedFrom x r us (drop x ts)) (drop-all x ss le)
+
+pub at-most-one : (b : Bool) → cond b 0 1 ≤ 1
+at-most-one true = omega arith
+at-most-one false = omega arith
+
+-- The calls, from the tables that the code writes.
+module _ (rules : List Rule) (states : List State) (rank : ℕ → ℕ) (r : ℕ) where
+  places-at : (rule : Rule) {rules′ : List Rule} {states′ s : List State} {o p : Bool} → rules′ ≡ set rules r rule → states′ ≡ set states r Waiting → o ≡ p → Places rules′ states′ rank r o s → Places (set rules r rule) (set states r Waiting) rank r p s
+  places-at rule {rules′} {states′} {s} {o} {p} er es eo q =
+      subst (λ (b : Bool). Places (set rules r rule) (set states r Waiting) rank r b s) eo (subst (λ (t : List State). Places (set rules r rule) t rank r o s) es (subst (λ (n : List Rule). Places n states′ rank r o s) er q))
+
+  pub adds-waits : (rule : Rule) {rules′ : List Rule} {states′ s : List State} {o : Bool} → rules′ ≡ set rules r rule → states′ ≡ set states r Waiting → o ≡ false → Places rules′ states′ rank r o s → Adds rules states rank r rule false s
+  adds-waits rule er es eo q = Adds.waits (places-at rule er es eo q)
+
+  pub adds-comes : (rule : Rule) {rules′ : List Rule} {states′ s t : List State} {o : Bool} → rules′ ≡ set rules r rule → states′ ≡ set states r Waiting → o ≡ true → Places rules′ states′ rank r o s → PassesBehind rules′ rank r s t → Adds rules states rank r rule true t
+  adds-comes rule {s = s} {t = t} er es eo q pass = Adds.comes (places-at rule er es eo q) (subst (λ (n : List Rule). PassesBehind n rank r s t) er pass)
+
+  pub removes-waited : {s : List State} → s ≡ set states r Absent → isWaiting (stateOf states r) ≡ true → Removes rules states rank r s
+  removes-waited e w = subst (Removes rules states rank r) (sym e) (Removes.waited w)
+
+  pub removes-gave : {s t : List State} → s ≡ set states r Absent → isStanding (stateOf states r) ≡ true → isWaiting (stateOf states r) ≡ false → PassesBehind rules rank r s t → Removes rules states rank r t
+  removes-gave {s} {t} e standing w pass = Removes.gave (gives-then (stateOf states r) standing w) (subst (λ (u : List State). PassesBehind rules rank r u t) e pass)
+    where
+      gives-then : (a : State) → isStanding a ≡ true → isWaiting a ≡ false → isInForce a ≡ true
+      gives-then Absent h k = h
+      gives-then Waiting h k = sym k
+      gives-then (InForce i) h k = refl

@@ -13,6 +13,7 @@ use Rattle.placing.specs.declared.rules.Way.{Way}
 use Rattle.placing.specs.declared.rules.Rule.{Rule}
 use Rattle.placing.specs.declared.rules.State.{State}
 use Rattle.placing.specs.declared.rules.State.the-variants.{Absent, Waiting, InForce}
+use Rattle.placing.specs.declared.board.Board.{Board}
 use Rattle.placing.specs.Board.{noWay, noRule, listed, wayMask, stateOf, isStanding, isWaiting, isInForce, givenBy, gives, listedBy, Apart, lawfulRule, LawfulRules}
 use Rattle.placing.specs.Choice.{WithBetter, SettledAt, Settled}
 use Rattle.placing.specs.Search.{Places}
@@ -20,7 +21,7 @@ use Rattle.placing.specs.Calls.{Passes, Adds, Removes}
 use Rattle.placing.specs.Laws.{IsBoard, Distinct, Below64, SettlingLaws, CallsSettle}
 use Rattle.placing.proofs.After.{gives-nothing}
 use Rattle.placing.proofs.Placing.{placing-is-lawful}
-use Rattle.placing.proofs.Settling.{settled-same, settled-absent, past-absent, force-stands, stepped, step-settles, Passed, pass-settles}
+use Rattle.placing.proofs.Settling.{settled-same, settled-absent, past-absent, force-stands, stepped, step-settles, Passed, pass-settles, pass-board}
 
 waiting-off : (s : State) → isWaiting s ≡ true → isInForce s ≡ false
 waiting-off Absent w = refl
@@ -89,6 +90,35 @@ set-lawful : (rules : List Rule) (r : ℕ) (rule : Rule) → r < length rules �
 set-lawful rules r rule lt ok lawful x =
     ⊎-elim (λ e. subst (λ (y : ℕ). lawfulRule (getD (set rules r rule) y noRule) ≡ true) (sym e) (ap lawfulRule (getD-set-same rules r rule noRule lt) ∙ ok)) (λ ne. ap lawfulRule (getD-set-other rules r x rule noRule ne) ∙ lawful x) (cases-eq x r)
 
+-- What every board keeps.
+pub board-of : (b : Board) → IsBoard (b .rules) (b .states)
+board-of b = record {
+  rules-counted = b .sized;
+  states-counted = b .stated;
+  lawful = b .lawful;
+  no-two-givers = b .apart;
+  selected-listed = b .chosen;
+}
+
+-- Adding and removing leave a board, settled or not.
+module _ (rules : List Rule) (states : List State) (rank : ℕ → ℕ) (r : ℕ) (b : IsBoard rules states) (distinct : Distinct rank) (small : r < 64) where
+  pub waiting-board : (rule : Rule) → lawfulRule rule ≡ true → IsBoard (set rules r rule) (set states r Waiting)
+  waiting-board rule ok = written-board rules (set rules r rule) states r Waiting b small refl (simp length-set (b .rules-counted)) (set-lawful rules r rule (omega (arith, b .rules-counted)) ok (b .lawful)) (λ x ne. set-listed rules r x rule ne)
+
+  pub waiting-there : isWaiting (stateOf (set states r Waiting) r) ≡ true
+  waiting-there = ap isWaiting (getD-set-same states r Waiting Absent (omega (arith, b .states-counted)))
+
+  pub absent-board : IsBoard rules (set states r Absent)
+  absent-board = written-board rules rules states r Absent b small refl (b .rules-counted) (b .lawful) (λ _ _. refl)
+
+  pub adds-board : (rule : Rule) → lawfulRule rule ≡ true → {f : Bool} {t : List State} → Adds rules states rank r rule f t → IsBoard (set rules r rule) t
+  adds-board rule ok (Adds.waits {s = s} p) = stepped rank distinct (set rules r rule) (set states r Waiting) s r false (waiting-board rule ok) small waiting-there p .board
+  adds-board rule ok (Adds.comes {s = s} p q) = pass-board rank distinct q (stepped rank distinct (set rules r rule) (set states r Waiting) s r true (waiting-board rule ok) small waiting-there p .board)
+
+  pub removes-board : {t : List State} → Removes rules states rank r t → IsBoard rules t
+  removes-board (Removes.waited w) = absent-board
+  removes-board (Removes.gave f p) = pass-board rank distinct p absent-board
+
 module _ (rules : List Rule) (states : List State) (rank : ℕ → ℕ) (r : ℕ) (b : IsBoard rules states) (distinct : Distinct rank) (below : Below64 rank) (small : r < 64) (settled : Settled rules states rank) where
   -- A pass behind r settles all, once all up to r are settled.
   whole : (rules′ : List Rule) (s t : List State) → IsBoard rules′ s → ((x : ℕ) → rank x < suc (rank r) → SettledAt rules′ s rank x) → Passes rules′ rank (suc (rank r)) (63 - rank r) s t → IsBoard rules′ t × Settled rules′ t rank
@@ -103,13 +133,13 @@ module _ (rules : List Rule) (states : List State) (rank : ℕ → ℕ) (r : ℕ
       not-in-force = ⊎-elim (λ h. absurd (force-stands (stateOf states r) gone h)) (λ h. h) (cases-bool (isInForce (stateOf states r)))
 
       board : IsBoard (set rules r rule) (set states r Waiting)
-      board = written-board rules (set rules r rule) states r Waiting b small refl (simp length-set (b .rules-counted)) (set-lawful rules r rule (omega (arith, b .rules-counted)) ok (b .lawful)) (λ x ne. set-listed rules r x rule ne)
+      board = waiting-board rules states rank r b distinct small rule ok
 
       others : (x : ℕ) → (x ≡ r → ⊥) → SettledAt (set rules r rule) (set states r Waiting) rank x
       others x ne = written-settled rules (set rules r rule) states r Waiting b small refl (simp length-set (b .rules-counted)) (set-lawful rules r rule (omega (arith, b .rules-counted)) ok (b .lawful)) (λ y n. set-listed rules r y rule n) rank x ne (λ _. not-in-force) (settled x)
 
       waits : isWaiting (stateOf (set states r Waiting) r) ≡ true
-      waits = ap isWaiting (getD-set-same states r Waiting Absent (omega (arith, b .states-counted)))
+      waits = waiting-there rules states rank r b distinct small
 
       by : {g : Bool} {t : List State} → Adds rules states rank r rule g t → IsBoard (set rules r rule) t × Settled (set rules r rule) t rank
       by (Adds.waits {s = s} p) =
@@ -124,7 +154,7 @@ module _ (rules : List Rule) (states : List State) (rank : ℕ → ℕ) (r : ℕ
   removing after removes = by removes
     where
       board : IsBoard rules (set states r Absent)
-      board = written-board rules rules states r Absent b small refl (b .rules-counted) (b .lawful) (λ _ _. refl)
+      board = absent-board rules states rank r b distinct small
 
       others : (x : ℕ) → (x ≡ r → ⊥) → (rank r < rank x → isInForce (stateOf states r) ≡ false) → SettledAt rules (set states r Absent) rank x
       others x ne quiet = written-settled rules rules states r Absent b small refl (b .rules-counted) (b .lawful) (λ _ _. refl) rank x ne quiet (settled x)

@@ -6,7 +6,9 @@ use Prim.Native.Nat.{ℕ, zero, suc, _^_}
 use lib.Bits.{bitAnd, bitOr}
 use lib.Dec.{leb, ltb, eqb}
 use lib.ListN.{length, getD, take}
-use Rattle.meaning.specs.Masks.{bit}
+use Rattle.meaning.specs.Lists.{every}
+use Rattle.std.specs.declared.option.Option.{Option}
+use Rattle.std.specs.declared.option.Option.the-variants.{Some, None}
 use Rattle.placing.specs.declared.rules.Way.{Way}
 use Rattle.placing.specs.declared.rules.Rule.{Rule}
 use Rattle.placing.specs.declared.rules.State.{State}
@@ -65,6 +67,16 @@ givenBy rules x state = given (getD rules x noRule) state
 abbrev pub gives : List Rule → List State → ℕ → ℕ
 gives rules states x = givenBy rules x (stateOf states x)
 
+-- The way by which a rule is in force, if it is.
+abbrev pub wayBy : Rule → State → Option Way
+wayBy rule Absent = None
+wayBy rule Waiting = None
+wayBy rule (InForce i) = Some (getD (waysOf rule) i noWay)
+
+-- A rule that lists no way.
+abbrev pub emptyRule : Rule
+emptyRule = record { ways = noWay ∷ noWay ∷ noWay ∷ noWay ∷ []; count = 0 }
+
 -- Two sets of cells share none.
 abbrev pub Apart : ℕ → ℕ → Type 0
 Apart m n = bitAnd m n ≡ 0
@@ -86,11 +98,6 @@ SelectedListed rules states = (x : ℕ) → listedBy rules x (stateOf states x) 
 abbrev pub maskOf : List ℕ → ℕ
 maskOf [] = 0
 maskOf (c ∷ cs) = bitOr (2 ^ c) (maskOf cs)
-
--- The test f passes at each element.
-abbrev pub every : {X : Type 0} → (X → Bool) → List X → Bool
-every f [] = true
-every f (x ∷ xs) = f x && every f xs
 
 -- At most 6 outputs, each a cell below 64, and the mask is theirs.
 abbrev pub lawfulWay : Way → Bool

@@ -5,6 +5,8 @@ use mathlib.Core.List.{List, [], _∷_}
 use Prim.Native.Nat.{ℕ, zero, suc, _+_, _-_, _<_}
 use lib.Dec.{eqb}
 use lib.ListN.{set}
+use Rattle.std.specs.declared.option.Option.{Option}
+use Rattle.std.specs.declared.option.Option.the-variants.{Some, None}
 use Rattle.placing.specs.declared.rules.Rule.{Rule}
 use Rattle.placing.specs.declared.rules.State.{State}
 use Rattle.placing.specs.declared.rules.State.the-variants.{Absent, Waiting, InForce}
@@ -54,3 +56,8 @@ changedFrom x r (s ∷ ss) (t ∷ ts) = cond (eqb x r || sameState s t) 0 1 + ch
 -- The number of rules other than r whose way or waiting is different.
 abbrev pub changed : ℕ → List State → List State → ℕ
 changed r before after = changedFrom 0 r before after
+
+-- The waiting rule of a rank, or none.
+abbrev pub WaitsAt : List State → (ℕ → ℕ) → ℕ → Option ℕ → Type 0
+WaitsAt states rank k (Some x) = (x < 64) × (rank x ≡ k) × (isWaiting (stateOf states x) ≡ true)
+WaitsAt states rank k None = (x : ℕ) → x < 64 → rank x ≡ k → isWaiting (stateOf states x) ≡ false

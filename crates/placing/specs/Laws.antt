@@ -1,8 +1,9 @@
 -- What a board is, and the laws of placing.
 use mathlib.Core.Path.{_≡_}
-use mathlib.Core.Bool.{Bool, true, false}
+use mathlib.Core.Bool.{Bool, true, false, not, _&&_}
 use mathlib.Core.List.{List}
 use Prim.Native.Nat.{ℕ, _<_}
+use lib.Dec.{ltb, eqb}
 use lib.ListN.{length, set}
 use Rattle.placing.specs.declared.rules.Rule.{Rule}
 use Rattle.placing.specs.declared.rules.State.{State}
@@ -22,6 +23,10 @@ pub record IsBoard (rules : List Rule) (states : List State) : Type 0 where
 -- No two of the sixty-four rules have one rank.
 abbrev pub Distinct : (ℕ → ℕ) → Type 0
 Distinct rank = (x y : ℕ) → x < 64 → y < 64 → rank x ≡ rank y → x ≡ y
+
+-- Whether two rules share a rank: a test, which no two rules of distinct ranks pass.
+abbrev pub shareRank : (ℕ → ℕ) → ℕ → ℕ → Bool
+shareRank rank x y = ltb x 64 && (ltb y 64 && (eqb (rank x) (rank y) && not (eqb x y)))
 
 -- What a placing that succeeds leaves.
 pub record Placed (rules : List Rule) (states : List State) (rank : ℕ → ℕ) (r : ℕ) (after : List State) : Type 0 where

@@ -1,5 +1,9 @@
 //! The rules of a board: their listed ways, whether each is in force, and the marks of a search.
 
+ghost use mathlib.Core.Path.{_≡_};
+ghost use Prim.Native.Nat.{_<_};
+ghost use lib.ListN.{set};
+
 /// The number of rules on a board, and of cells.
 pub const RULES: usize = 64;
 
@@ -11,6 +15,20 @@ pub struct Way {
     pub count: u8,
     pub mask: u64,
 }
+
+/// A way that gives nothing.
+pub const NO_WAY: Way = Way {
+    number: 0,
+    outputs: [0; 6],
+    count: 0,
+    mask: 0,
+};
+
+/// A rule that lists no way.
+pub const NO_RULE: Rule = Rule {
+    ways: [NO_WAY; 4],
+    count: 0,
+};
 
 /// The listed ways of a rule, in their order.
 #[derive(Clone, Copy)]
@@ -33,4 +51,14 @@ pub enum Mark {
     PutOut,
     Fresh,
     Tried(u8),
+}
+
+/// A table by rule with one entry written.
+pub(crate) fn written<T: Copy>(items: &[T; RULES], x: u8, item: T) -> [T; RULES]
+    requires { ⌜ x < 64 ⌝ }
+    ensures { λ r. ⌜ r ≡ set (now (items .entry)) x item ⌝ }
+{
+    let mut after = *items;
+    after[usize::from(x)] = item;
+    after
 }

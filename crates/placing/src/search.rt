@@ -2,33 +2,28 @@
 
 ghost use mathlib.Core.Path.{_≡_};
 ghost use mathlib.Core.Bool.{true};
-ghost use mathlib.Core.List.{_∷_};
+ghost use mathlib.Core.List.{[], _∷_};
 ghost use Prim.Native.Nat.{_+_, _*_, _≤_, _<_};
-ghost use lib.ListN.{length, getD, set, take, drop};
-ghost use Rattle.placing.specs.declared.rules.Mark.the-variants.{PutOut};
+ghost use lib.ListN.{length, getD, set, take, drop, replicate};
+ghost use Rattle.placing.specs.declared.rules.Mark.the-variants.{PutOut, Fresh};
 ghost use Rattle.placing.specs.Board.{noWay, waysOf, listed, given};
 ghost use Rattle.placing.specs.Search.{freshAt, giver as giverOf, piled, rankIn, oneOf, freshCount, Leads, Tries};
 use crate::rules::Mark;
+use crate::rules::NO_WAY;
 use crate::rules::RULES;
 use crate::rules::Rule;
 use crate::rules::State;
 use crate::rules::Way;
+use crate::rules::written;
 use meaning::masks::has_bit;
 use meaning::read_or;
 
 /// A pile has room for the placed rule and for six givers of each rule.
 const PILE: usize = 385;
 
-const NO_WAY: Way = Way {
-    number: 0,
-    outputs: [0; 6],
-    count: 0,
-    mask: 0,
-};
-
 /// A pile of rules, filled from the back, the top one at `top`.
 #[derive(Clone, Copy)]
-struct Pile {
+pub(crate) struct Pile {
     at: [u8; PILE],
     top: usize,
     ghost room: { length at ≡ 385 },
@@ -60,7 +55,7 @@ fn listed_at(ways: &[Way], count: u8, i: usize) -> Way
 }
 
 /// The number of listed ways of a rule.
-fn way_count(rule: &Rule) -> usize
+pub(crate) fn way_count(rule: &Rule) -> usize
     ensures value { λ r. ⌜ r ≡ length (waysOf (now (rule .entry))) ⌝ }
     ensures bound { λ r. ⌜ r < 256 ⌝ }
 {
@@ -68,7 +63,7 @@ fn way_count(rule: &Rule) -> usize
 }
 
 /// The listed way of a rule at an index.
-fn way_at(rule: &Rule, i: usize) -> Way
+pub(crate) fn way_at(rule: &Rule, i: usize) -> Way
     ensures { λ r. ⌜ r ≡ getD (waysOf (now (rule .entry))) i noWay ⌝ }
 {
     listed_at(&rule.ways, rule.count, i)
@@ -101,7 +96,7 @@ fn is_fresh(marks: &[Mark; RULES], x: u8) -> bool
 }
 
 /// The rank of a rule; 0 past the ranks.
-fn rank_of(ranks: &[u8; RULES], x: u8) -> u8
+pub(crate) fn rank_of(ranks: &[u8; RULES], x: u8) -> u8
     ensures { λ r. ⌜ r ≡ rankIn (now (ranks .entry)) x ⌝ }
 {
     read_or(ranks, usize::from(x), 0)
@@ -120,6 +115,16 @@ fn giver(rules: &[Rule; RULES], states: &[State; RULES], cell: u8) -> Option<u8>
 }
 
 impl Pile {
+    /// A pile of one rule.
+    fn of(x: u8) -> Pile
+        ensures value { λ r. ⌜ drop (r .top) (r .at) ≡ x ∷ [] ⌝ }
+        ensures top { λ r. ⌜ r .top ≡ 384 ⌝ }
+    {
+        let mut at = [0; PILE];
+        at[PILE - 1] = x;
+        Pile { at, top: PILE - 1 }
+    }
+
     /// One rule more on top.
     fn with(self, x: u8) -> Pile
         requires { ⌜ 0 < self .top ⌝ }
@@ -134,7 +139,7 @@ impl Pile {
 }
 
 /// The outputs of a way, in place order: the first `count` of the six.
-fn cells_of(outputs: &[u8; 6], count: u8) -> &[u8]
+pub(crate) fn cells_of(outputs: &[u8; 6], count: u8) -> &[u8]
     ensures value { λ r. ⌜ now r ≡ take count (now (outputs .entry)) ⌝ }
     ensures len { λ r. ⌜ length (now r) ≤ 6 ⌝ }
 {
@@ -164,26 +169,30 @@ fn with_givers(rules: &[Rule; RULES], states: &[State; RULES], cells: &[u8], pil
 
 /// What a search holds: the pile, the marks and the taken cells.
 #[derive(Clone, Copy)]
-struct Search {
+pub(crate) struct Search {
     pile: Pile,
     marks: [Mark; RULES],
     taken: u64,
     ghost counted: { length marks ≡ 64 },
 }
 
-/// The marks with the mark of a rule written.
-fn with_mark(marks: [Mark; RULES], x: u8, mark: Mark) -> [Mark; RULES]
-    requires { ⌜ x < 64 ⌝ }
-    ensures { λ r. ⌜ r ≡ set marks x mark ⌝ }
+/// The start of placing a rule: it alone is on the pile, no rule is done and no cell taken.
+pub(crate) fn start(r: u8) -> Search
+    ensures pile { λ s. ⌜ drop (s .pile .top) (s .pile .at) ≡ r ∷ [] ⌝ }
+    ensures top { λ s. ⌜ s .pile .top ≡ 384 ⌝ }
+    ensures marks { λ s. ⌜ s .marks ≡ replicate 64 Fresh ⌝ }
+    ensures taken { λ s. ⌜ s .taken ≡ 0 ⌝ }
 {
-    let mut marks = marks;
-    marks[usize::from(x)] = mark;
-    marks
+    Search {
+        pile: Pile::of(r),
+        marks: [Mark::Fresh; RULES],
+        taken: 0,
+    }
 }
 
 /// Takes the top rule off the pile: an empty pile is success, a rule that is done is passed over, one that ranks after
 /// the placed rule r is put out, and of any other the ways are tried.
-fn take_off(
+pub(crate) fn take_off(
     rules: &[Rule; RULES],
     states: &[State; RULES],
     ranks: &[u8; RULES],
@@ -227,7 +236,7 @@ fn put_out(
     requires room { ⌜ 6 * freshCount (search .marks) ≤ search .pile .top ⌝ }
     ensures { λ o. ⌜ Leads (now (rules .entry)) (now (states .entry)) (rankIn (now (ranks .entry))) r (drop (search .pile .top) (search .pile .at)) (set (search .marks) x PutOut) (search .taken) o ⌝ }
 {
-    let marks = with_mark(search.marks, x, Mark::PutOut);
+    let marks = written(&search.marks, x, Mark::PutOut);
     let pile = search.pile;
     let taken = search.taken;
     take_off(rules, states, ranks, r, Search { pile, marks, taken })
@@ -256,7 +265,7 @@ fn try_ways(
                 cells_of(&way.outputs, way.count),
                 search.pile,
             );
-            let marks = with_mark(search.marks, x, Mark::Tried(i as u8));
+            let marks = written(&search.marks, x, Mark::Tried(i as u8));
             let taken = search.taken | way.mask;
             match take_off(rules, states, ranks, r, Search { pile, marks, taken }) {
                 Some(found) => return Some(found),

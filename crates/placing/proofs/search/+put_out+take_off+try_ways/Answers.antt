@@ -20,7 +20,7 @@ use Rattle.placing.proofs.search.+put_out+take_off+try_ways.Needs.{try-ways-th
 
 pub put-out-take-off-requires : need.put-out-take-off-requires
 put-out-take-off-requires t c κs =
-    let less : freshCount (c .with-mark-marks .result) + 1 ≡ freshCount (c .args .search .marks) = ap (λ (m : List Mark). freshCount m + 1) (c .with-mark-marks .ensures) ∙ fresh-less (c .args .search .marks) (c .args .x) PutOut refl (c .pre .fresh .0) in
+    let less : freshCount (c .written-marks .result) + 1 ≡ freshCount (c .args .search .marks) = ap (λ (m : List Mark). freshCount m + 1) (c .written-marks .ensures) ∙ fresh-less (c .args .search .marks) (c .args .x) PutOut refl (c .pre .fresh .0) in
     search needs
 
 pub take-off-returns-then-pile-ge-PILE : need.take-off-returns-then-pile-ge-PILE
@@ -50,7 +50,7 @@ try-ways-cast-i t c = record { fits = omega (arith, c .loop-i-test .taken, c .wa
 
 pub try-ways-take-off-requires : need.try-ways-take-off-requires
 try-ways-take-off-requires t c κs =
-    let less : freshCount (c .with-mark-marks .result) + 1 ≡ freshCount (c .args .search .marks) = ap (λ (m : List Mark). freshCount m + 1) (c .with-mark-marks .ensures) ∙ fresh-less (c .args .search .marks) (c .args .x) (Tried (c .loop-i .i)) refl (c .pre .fresh .0) in
+    let less : freshCount (c .written-marks .result) + 1 ≡ freshCount (c .args .search .marks) = ap (λ (m : List Mark). freshCount m + 1) (c .written-marks .ensures) ∙ fresh-less (c .args .search .marks) (c .args .x) (Tried (c .loop-i .i)) refl (c .pre .fresh .0) in
     let room = c .with-givers-pile .ensures .room in
     let few = c .cells-of .ensures .len in
     search needs
@@ -66,7 +66,7 @@ try-ways-returns-in-Some t c =
     let count : c .way-count-i-end .result ≡ length ways = c .way-count-i-end .ensures .value ∙ ap (λ (y : ℕ). length (listed R y)) (c .from .ensures) in
     let free : bitAnd (c .args .search .taken) (getD ways (c .loop-i .i) noWay .mask) ≡ 0 = ap (λ (w : Way). bitAnd (c .args .search .taken) (w .mask)) (sym way) ∙ c .if-search-way-eq0 .taken in
     let cells = c .cells-of .ensures .value ∙ ap cellsOf way in
-    let tried = moved R S K (c .args .r) (c .with-givers-pile .ensures .value ∙ ap (λ (cs : List ℕ). piled R S cs pile) cells) (c .with-mark-marks .ensures) (ap (λ (w : Way). bitOr (c .args .search .taken) (w .mask)) way) (c .in-Some .ensures tt) in
+    let tried = moved R S K (c .args .r) (c .with-givers-pile .ensures .value ∙ ap (λ (cs : List ℕ). piled R S cs pile) cells) (c .written-marks .ensures) (ap (λ (w : Way). bitOr (c .args .search .taken) (w .mask)) way) (c .in-Some .ensures tt) in
     c .loop-i .inv (Some (c .in-Some .found)) (tries-leads R S K (c .args .r) (c .args .x) pile (c .args .search .marks) (c .args .search .taken) ways (c .loop-i .i) (c .in-Some .found) (omega (arith, count, c .loop-i-test .taken)) (eq-eqb _ 0 free) tried)
 
 pub try-ways-loop-i-again : need.try-ways-loop-i-again
@@ -82,7 +82,7 @@ try-ways-loop-i-again t c o rest =
     let lt : c .loop-i .i < length ways = omega (arith, count, c .loop-i-test .taken) in
     let masked = λ (w : Way). bitAnd taken (w .mask) in
     c .loop-i .inv o (elim (c .if-search-way-eq0 .came) [
-      | try-ways-then-search-way-eq0·in-None w ↦ tries-fails R S K (c .args .r) (c .args .x) pile (c .args .search .marks) taken ways (c .loop-i .i) o lt (eq-eqb _ 0 (ap masked (sym way) ∙ w .if-search-way-eq0 .taken)) (moved R S K (c .args .r) (w .with-givers-pile .ensures .value ∙ ap (λ (cs : List ℕ). piled R S cs pile) (w .cells-of .ensures .value ∙ ap cellsOf way)) (w .with-mark-marks .ensures) (ap (λ (v : Way). bitOr taken (v .mask)) way) (w .in-None .ensures tt)) rest
+      | try-ways-then-search-way-eq0·in-None w ↦ tries-fails R S K (c .args .r) (c .args .x) pile (c .args .search .marks) taken ways (c .loop-i .i) o lt (eq-eqb _ 0 (ap masked (sym way) ∙ w .if-search-way-eq0 .taken)) (moved R S K (c .args .r) (w .with-givers-pile .ensures .value ∙ ap (λ (cs : List ℕ). piled R S cs pile) (w .cells-of .ensures .value ∙ ap cellsOf way)) (w .written-marks .ensures) (ap (λ (v : Way). bitOr taken (v .mask)) way) (w .in-None .ensures tt)) rest
       | try-ways-else-search-way-eq0 w ↦ tries-barred R S K (c .args .r) (c .args .x) pile (c .args .search .marks) taken ways (c .loop-i .i) o lt (ne-eqb _ 0 (λ e. w .if-search-way-eq0 .left (ap masked way ∙ e))) rest
     ])
 

@@ -1,0 +1,16 @@
+-- An accepted removal leaves a board.
+use mathlib.Core.Path.{sym, subst}
+use mathlib.Core.List.{List}
+use Prim.Native.Nat.{ℕ}
+use native.Mathlib.Omega.{arith}
+use Rattle.placing.specs.Search.{rankIn}
+use Rattle.placing.specs.Laws.{Distinct}
+use Rattle.placing.proofs.RankNumbers.{not-shared}
+use Rattle.placing.proofs.Writing.{removes-board, board-of}
+use Rattle.placing.proofs.board.Board.remove.Needs as need
+
+pub of-requires : need.of-requires
+of-requires c κs =
+    let b = c .args .self .now in
+    let distinct = subst (λ (of : List ℕ). Distinct (rankIn of)) (sym (c .numbers .ensures)) (not-shared (rankIn (c .args .ranks .now .of)) (c .args .ranks .now .distinct)) in
+    removes-board (b .rules) (b .states) (rankIn (c .numbers .result .now)) (c .args .r) (board-of b) distinct (omega (arith, c .if-n-ge-RULES .left, c .from-n .ensures)) (c .without-rule-after .ensures)

@@ -11,3 +11,5 @@ pub mod OneResult
 pub mod Steps
 pub mod RankNumbers
 pub mod Empty
+pub mod Counting
+pub mod RankOrder

@@ -2,5 +2,6 @@ pub mod Board
 pub mod Choice
 pub mod Search
 pub mod Calls
+pub mod RankOrder
 pub mod Answers
 pub mod Laws

@@ -6,19 +6,29 @@ use mathlib.Core.Logic.{_⊎_, inl, inr, ⊎-elim}
 use Prim.Native.Nat.{ℕ, zero, suc, _+_, _-_, _≤_, _<_}
 use native.Mathlib.Omega.{arith}
 use lib.Bits.{and-zero-l, and-zero-r}
+use lib.Dec.{leb, ltb}
 use lib.ListN.{length, getD, set, take, length-set}
 use lib.Seq.{getD-set-same, getD-set-other}
-use Rattle.std.proofs.shelf.Tests.{both-ways, cases-lt, cases-eq, cases-bool}
+use Rattle.std.proofs.shelf.Tests.{both-ways, cases-lt, cases-eq, cases-bool, cond-true, cond-false, leb-false, and-parts}
 use Rattle.placing.specs.declared.rules.Way.{Way}
 use Rattle.placing.specs.declared.rules.Rule.{Rule}
 use Rattle.placing.specs.declared.rules.State.{State}
 use Rattle.placing.specs.declared.rules.State.the-variants.{Absent, Waiting, InForce}
+use Rattle.std.specs.declared.result.Result.{Result}
+use Rattle.std.specs.declared.result.Result.the-variants.{Ok, Err}
+use Rattle.std.specs.declared.option.Option.the-variants.{Some, None}
+use Rattle.placing.specs.declared.ranks.Ranks.{Ranks as RankTable}
 use Rattle.placing.specs.declared.board.Board.{Board}
+use Rattle.placing.specs.declared.board.Added.{Added}
+use Rattle.placing.specs.declared.board.Refused.{Refused}
 use Rattle.placing.specs.Board.{noWay, noRule, listed, wayMask, stateOf, isStanding, isWaiting, isInForce, givenBy, gives, listedBy, Apart, lawfulRule, LawfulRules}
 use Rattle.placing.specs.Choice.{WithBetter, SettledAt, Settled}
-use Rattle.placing.specs.Search.{Places}
+use Rattle.placing.specs.Search.{rankIn, Places}
 use Rattle.placing.specs.Calls.{Passes, Adds, Removes}
+use Rattle.placing.specs.Answers.{isRule, addRefusal, removeRefusal, AddsTo, RemovesFrom}
 use Rattle.placing.specs.Laws.{IsBoard, Distinct, Below64, SettlingLaws, CallsSettle}
+use Rattle.placing.proofs.Single.{some-none}
+use Rattle.placing.proofs.RankNumbers.{not-shared}
 use Rattle.placing.proofs.After.{gives-nothing}
 use Rattle.placing.proofs.Placing.{placing-is-lawful}
 use Rattle.placing.proofs.Settling.{settled-same, settled-absent, past-absent, force-stands, stepped, step-settles, Passed, pass-settles, pass-board}
@@ -167,8 +177,33 @@ module _ (rules : List Rule) (states : List State) (rank : ℕ → ℕ) (r : ℕ
       by (Removes.gave {t = t} f p) =
           whole rules (set states r Absent) t board (λ x h. ⊎-elim (itself x) (λ ne. ⊎-elim (λ lt. others x ne (λ k. absurd (ne (distinct x r lt small (omega arith))))) (λ le. settled-absent rules (set states r Absent) rank x (past-absent rules (set states r Absent) board x le)) (cases-lt x 64)) (cases-eq x r)) p
 
+-- What an accepted call passed.
+accepted : (states : List State) (r : ℕ) (rule : Rule) → addRefusal states r rule ≡ None → (r < 64) × (isStanding (stateOf states r) ≡ false) × (lawfulRule rule ≡ true)
+accepted states r rule e =
+    ⊎-elim (λ over. absurd (some-none (sym (cond-true (leb 64 r) _ _ over) ∙ e))) (λ under. let second = sym (cond-false (leb 64 r) _ _ under) ∙ e in ⊎-elim (λ stands. absurd (some-none (sym (cond-true (isStanding (stateOf states r)) _ _ stands) ∙ second))) (λ gone. let third = sym (cond-false (isStanding (stateOf states r)) _ _ gone) ∙ second in ⊎-elim (λ is. (lt-of r under, gone, and-parts (ltb 0 (rule .count)) (lawfulRule rule) is .1)) (λ no. absurd (some-none (sym (cond-false (isRule rule) _ _ no) ∙ third))) (cases-bool (isRule rule))) (cases-bool (isStanding (stateOf states r)))) (cases-bool (leb 64 r))
+  where
+    lt-of : (r : ℕ) → leb 64 r ≡ false → r < 64
+    lt-of r h = leb-false 64 r h
+
+removed-small : (states : List State) (r : ℕ) → removeRefusal states r ≡ None → r < 64
+removed-small states r e = ⊎-elim (λ over. absurd (some-none (sym (cond-true (leb 64 r) _ _ over) ∙ e))) (λ under. leb-false 64 r under) (cases-bool (leb 64 r))
+
 pub calls-settle : CallsSettle
 calls-settle rules states rank r b distinct below small settled = record {
   adding = adding rules states rank r b distinct below small settled;
   removing = removing rules states rank r b distinct below small settled;
 }
+
+-- So whatever a call on a settled board answers, it leaves one; a refused call leaves the same one.
+pub add-settles : (b : Board) (ranks : RankTable) (r : ℕ) (rule : Rule) (o : Result Added Refused) (rules′ : List Rule) (states′ : List State) → AddsTo (b .rules) (b .states) (rankIn (ranks .of)) r rule o rules′ states′ → Settled (b .rules) (b .states) (rankIn (ranks .of)) → Settled rules′ states′ (rankIn (ranks .of))
+add-settles b ranks r rule (Err why) rules′ states′ d settled = subst (λ (n : List Rule). Settled n states′ (rankIn (ranks .of))) (sym (d .1)) (subst (λ (t : List State). Settled (b .rules) t (rankIn (ranks .of))) (sym (d .2)) settled)
+add-settles b ranks r rule (Ok added) rules′ states′ d settled =
+    let rank = rankIn (ranks .of) in
+    let ok = accepted (b .states) r rule (d .0) in
+    subst (λ (n : List Rule). Settled n states′ rank) (sym (d .1)) (calls-settle (b .rules) (b .states) rank r (board-of b) (not-shared rank (ranks .distinct)) (ranks .below) (ok .0) settled .adding rule (added .«in_force») states′ (ok .2) (ok .1) (d .2) .1)
+
+pub remove-settles : (b : Board) (ranks : RankTable) (r : ℕ) (o : Result ℕ Refused) (rules′ : List Rule) (states′ : List State) → RemovesFrom (b .rules) (b .states) (rankIn (ranks .of)) r o rules′ states′ → Settled (b .rules) (b .states) (rankIn (ranks .of)) → Settled rules′ states′ (rankIn (ranks .of))
+remove-settles b ranks r (Err why) rules′ states′ d settled = subst (λ (n : List Rule). Settled n states′ (rankIn (ranks .of))) (sym (d .1)) (subst (λ (t : List State). Settled (b .rules) t (rankIn (ranks .of))) (sym (d .2)) settled)
+remove-settles b ranks r (Ok count) rules′ states′ d settled =
+    let rank = rankIn (ranks .of) in
+    subst (λ (n : List Rule). Settled n states′ rank) (sym (d .1)) (calls-settle (b .rules) (b .states) rank r (board-of b) (not-shared rank (ranks .distinct)) (ranks .below) (removed-small (b .states) r (d .0)) settled .removing states′ (d .2) .1)

@@ -4,6 +4,7 @@ ghost use mathlib.Core.Path.{_≡_};
 ghost use lib.ListN.{getD, replicate};
 ghost use Rattle.placing.specs.declared.rules.State.the-variants.{Absent};
 ghost use Rattle.placing.specs.Board.{stateOf, isStanding, noRule, wayBy, emptyRule};
+ghost use Rattle.placing.specs.Choice.{Settled};
 ghost use Rattle.placing.specs.Search.{rankIn};
 ghost use Rattle.placing.specs.Answers.{AddsTo, RemovesFrom, isRule};
 ghost use Rattle.placing.specs.Laws.{IsBoard};
@@ -63,7 +64,8 @@ impl Board {
 
     /// Adds a rule that lists its ways: places it, and on success goes down the ranks behind it. A refusal changes nothing.
     pub fn add(&mut self, ranks: &Ranks, r: u8, rule: Rule) -> Result<Added, Refused>
-        ensures { λ o. ⌜ AddsTo (now (self .entry) .rules) (now (self .entry) .states) (rankIn (now (ranks .entry) .of)) r rule o (now (self .exit) .rules) (now (self .exit) .states) ⌝ }
+        ensures does { λ o. ⌜ AddsTo (now (self .entry) .rules) (now (self .entry) .states) (rankIn (now (ranks .entry) .of)) r rule o (now (self .exit) .rules) (now (self .exit) .states) ⌝ }
+        ensures settles { λ _. ⌜ (Settled (now (self .entry) .rules) (now (self .entry) .states) (rankIn (now (ranks .entry) .of)) → Settled (now (self .exit) .rules) (now (self .exit) .states) (rankIn (now (ranks .entry) .of))) ⌝ }
     {
         let n = usize::from(r);
         if n >= RULES {
@@ -87,7 +89,8 @@ impl Board {
     /// Removes a rule: behind one that is in force the pass goes down the ranks, a waiting one changes no other. It answers
     /// the number of other rules changed on balance. A refusal changes nothing.
     pub fn remove(&mut self, ranks: &Ranks, r: u8) -> Result<u8, Refused>
-        ensures { λ o. ⌜ RemovesFrom (now (self .entry) .rules) (now (self .entry) .states) (rankIn (now (ranks .entry) .of)) r o (now (self .exit) .rules) (now (self .exit) .states) ⌝ }
+        ensures does { λ o. ⌜ RemovesFrom (now (self .entry) .rules) (now (self .entry) .states) (rankIn (now (ranks .entry) .of)) r o (now (self .exit) .rules) (now (self .exit) .states) ⌝ }
+        ensures settles { λ _. ⌜ (Settled (now (self .entry) .rules) (now (self .entry) .states) (rankIn (now (ranks .entry) .of)) → Settled (now (self .exit) .rules) (now (self .exit) .states) (rankIn (now (ranks .entry) .of))) ⌝ }
     {
         let n = usize::from(r);
         if n >= RULES {

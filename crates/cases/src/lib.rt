@@ -1,0 +1,4 @@
+//! Worked cases, run on the compiled code.
+
+#[cfg(test)]
+mod placing_cases;

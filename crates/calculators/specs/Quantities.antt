@@ -66,9 +66,13 @@ scaled (suc (suc (suc way))) p = λ xs. faultsBy NoSuchWay
 abbrev pub product : ℕ → ℤ → List ℤ → Answer ℤ
 product way p xs = cond (ltZ p (pos 1)) (faultsBy ParameterBelowOne) (scaled way p xs)
 
+-- 1 if a figure is under a limit, else 0.
+abbrev pub mark : ℤ → ℤ → Answer ℤ
+mark a p = cond (ltZ a p) (gives (λ _. pos 1)) (gives (λ _. pos 0))
+
 -- Limit, places a, b: b = 1 if a is under P, else 0.
 abbrev pub limit : ℕ → ℤ → List ℤ → Answer ℤ
-limit zero p = withOne (λ a. cond (ltZ a p) (gives (λ _. pos 1)) (gives (λ _. pos 0)))
+limit zero p = withOne (λ a. mark a p)
 limit (suc way) p = λ xs. faultsBy NoSuchWay
 
 -- The four kinds in their order.

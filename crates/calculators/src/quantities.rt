@@ -5,9 +5,9 @@ ghost use mathlib.Core.Bool.{true};
 ghost use mathlib.Core.List.{[], _∷_};
 ghost use Prim.Native.Nat.{_^_, _≤_};
 ghost use lib.IntN.{pos, natAbs, _+ℤ_, _-ℤ_, _*ℤ_};
-ghost use lib.Signed.{quotZ};
+ghost use lib.Signed.{ltZ, quotZ};
 ghost use Rattle.calculators.specs.Forms.{lawfulForms};
-ghost use Rattle.calculators.specs.Quantities.{isQuantity, faultNumber, result, quotient, entry as entryOf, sum as sumOf, product as productOf, limit as limitOf, quantityForms, quantities};
+ghost use Rattle.calculators.specs.Quantities.{isQuantity, faultNumber, result, quotient, entry as entryOf, sum as sumOf, product as productOf, mark as markOf, limit as limitOf, quantityForms, quantities};
 ghost use Rattle.calculators.specs.QuantitySteps.{answerOf, inputsAmong, byPlaces};
 use crate::forms;
 use crate::forms::Form;
@@ -190,12 +190,26 @@ fn product(way: u8, p: i64, a: i64, b: i64, c: i64) -> Result<i64, QuantityFault
     }
 }
 
+/// Whether a figure is under a limit.
+fn is_under(a: i64, p: i64) -> bool
+    ensures { λ r. ⌜ r ≡ ltZ a p ⌝ }
+{
+    a < p
+}
+
+/// 1 if a figure is under a limit, else 0.
+fn mark(a: i64, p: i64) -> Result<i64, QuantityFault>
+    ensures { λ r. ⌜ answerOf r ≡ markOf a p ⌝ }
+{
+    if is_under(a, p) { Ok(1) } else { Ok(0) }
+}
+
 /// Limit, places a, b: b = 1 if a is under P, else 0.
 fn limit(way: u8, p: i64, a: i64) -> Result<i64, QuantityFault>
     ensures { λ r. ⌜ answerOf r ≡ limitOf way p (a ∷ []) ⌝ }
 {
     match way {
-        0 => { if a < p { Ok(1) } else { Ok(0) } }
+        0 => mark(a, p),
         _ => Err(QuantityFault::NoSuchWay),
     }
 }

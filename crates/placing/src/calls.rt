@@ -29,7 +29,7 @@ impl Board {
         ensures rules { λ b. ⌜ b .rules ≡ replicate 64 emptyRule ⌝ }
         ensures states { λ b. ⌜ b .states ≡ replicate 64 Absent ⌝ }
     {
-        Board::of([NO_RULE; RULES], [State::Absent; RULES])
+        Board::of([NO_RULE; RULES], all_absent())
     }
 
     /// A board of these rules in these states.
@@ -104,6 +104,13 @@ impl Board {
         *self = Board::of(self.rules, after);
         Ok(changed)
     }
+}
+
+/// The states of a board on which no rule stands.
+fn all_absent() -> [State; RULES]
+    ensures { λ s. ⌜ s ≡ replicate 64 Absent ⌝ }
+{
+    [State::Absent; RULES]
 }
 
 /// Whether a rule stands.

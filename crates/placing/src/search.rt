@@ -4,6 +4,8 @@ ghost use mathlib.Core.Path.{_≡_};
 ghost use mathlib.Core.Bool.{true};
 ghost use mathlib.Core.List.{[], _∷_};
 ghost use Prim.Native.Nat.{_+_, _*_, _≤_, _<_};
+ghost use lib.Bits.{bitAnd};
+ghost use lib.Dec.{ltb, eqb};
 ghost use lib.ListN.{length, getD, set, take, drop, replicate};
 ghost use Rattle.placing.specs.declared.rules.Mark.the-variants.{PutOut, Fresh};
 ghost use Rattle.placing.specs.Board.{noWay, waysOf, listed, given};
@@ -100,6 +102,20 @@ pub(crate) fn rank_of(ranks: &[u8; RULES], x: u8) -> u8
     ensures { λ r. ⌜ r ≡ rankIn (now (ranks .entry)) x ⌝ }
 {
     read_or(ranks, usize::from(x), 0)
+}
+
+/// Whether rule x ranks after rule r.
+fn ranks_after(ranks: &[u8; RULES], x: u8, r: u8) -> bool
+    ensures { λ t. ⌜ t ≡ ltb (rankIn (now (ranks .entry)) r) (rankIn (now (ranks .entry)) x) ⌝ }
+{
+    rank_of(ranks, r) < rank_of(ranks, x)
+}
+
+/// Whether none of a way's outputs is taken.
+fn is_free(taken: u64, way: &Way) -> bool
+    ensures { λ t. ⌜ t ≡ eqb (bitAnd taken (now (way .entry) .mask)) 0 ⌝ }
+{
+    taken & way.mask == 0
 }
 
 /// The rule that gives a cell, if there is one.
@@ -217,7 +233,7 @@ pub(crate) fn take_off(
     if !is_fresh(&marks, x) {
         return take_off(rules, states, ranks, r, rest);
     }
-    if rank_of(ranks, r) < rank_of(ranks, x) {
+    if ranks_after(ranks, x, r) {
         return put_out(rules, states, ranks, r, x, rest);
     }
     try_ways(rules, states, ranks, r, x, rest)
@@ -258,7 +274,7 @@ fn try_ways(
     let rule = &rules[usize::from(x)];
     for i in 0..way_count(rule) {
         let way = way_at(rule, i);
-        if search.taken & way.mask == 0 {
+        if is_free(search.taken, &way) {
             let pile = with_givers(
                 rules,
                 states,

@@ -1,9 +1,12 @@
-//! A reel of 480 kilos, 1,200 wide, worked out step by step by the quantity calculator alone: at its true grammage of 79.6
-//! and at the rounded 80.0.
+//! A reel of 480 kilos, 1,200 wide. First it is worked out step by step by the quantity calculator alone, at its true
+//! grammage of 79.6 and at the rounded 80.0; then its seven rules are put on a board one by one.
 
 ghost use mathlib.Core.Path.{_≡_};
 ghost use Rattle.meaning.specs.Calc.{tells};
 ghost use Rattle.calculators.specs.Quantities.{quantities};
+
+mod seven;
+
 use calculators::quantities::LIMIT;
 use calculators::quantities::PRODUCT;
 use calculators::quantities::Quantities;
@@ -153,5 +156,6 @@ fn main(rt: LibcRuntime) -> io::Result<()> {
     let mark = mark_under(&rt, 796)?;
     println!(rt, "under 80.0 g, rounded:")?;
     let wrong = mark_under(&rt, 800)?;
-    println!(rt, "light mark {mark} against {wrong}")
+    println!(rt, "light mark {mark} against {wrong}")?;
+    seven::print_board(&rt)
 }

@@ -5,8 +5,8 @@ use Prim.Native.Nat.{ℕ, _+_, _≤_, _<_}
 use native.Mathlib.Omega.{arith}
 use borrow.Author.Needs.{needs}
 use lib.Bits.{bitAnd, bitOr}
+use lib.Dec.{eqb}
 use lib.ListN.{length, getD, drop}
-use Rattle.std.proofs.shelf.Tests.{lt-ltb, le-ltb, eq-eqb, ne-eqb}
 use Rattle.std.specs.declared.option.Option.the-variants.{Some, None}
 use Rattle.placing.specs.declared.rules.Way.{Way}
 use Rattle.placing.specs.declared.rules.Mark.{Mark}
@@ -16,7 +16,7 @@ use Rattle.placing.specs.Search.{freshCount, piled, rankIn}
 use Rattle.placing.proofs.Marks.{fresh-less}
 use Rattle.placing.proofs.Steps.{step-empty, step-over, step-out, step-try, moved, tries-spent, tries-barred, tries-leads, tries-fails}
 use Rattle.placing.proofs.search.+put_out+take_off+try_ways.Needs as need
-use Rattle.placing.proofs.search.+put_out+take_off+try_ways.Needs.{try-ways-then-search-way-eq0·in-None, try-ways-else-search-way-eq0}
+use Rattle.placing.proofs.search.+put_out+take_off+try_ways.Needs.{try-ways-then-is-free·in-None, try-ways-else-is-free}
 
 pub put-out-take-off-requires : need.put-out-take-off-requires
 put-out-take-off-requires t c κs =
@@ -31,14 +31,14 @@ pub take-off-returns-then-not-is-fresh : need.take-off-returns-then-not-is-fresh
 take-off-returns-then-not-is-fresh t c =
     step-over (c .args .rules .now) (c .args .states .now) (rankIn (c .args .ranks .now)) (c .args .r) (c .args .search .pile .at) (c .args .search .pile .top) (c .args .search .marks) (c .args .search .taken) _ (omega (arith, c .args .search .pile .room, c .if-pile-ge-PILE .left)) (sym (c .if-not-is-fresh .ensures tt .value)) (c .take-off .ensures)
 
-pub take-off-returns-then-rank-of : need.take-off-returns-then-rank-of
-take-off-returns-then-rank-of t c =
-    let after = lt-ltb (rankIn (c .args .ranks .now) (c .args .r)) (rankIn (c .args .ranks .now) (getD (c .args .search .pile .at) (c .args .search .pile .top) 0)) (omega (arith, c .if-rank-of .taken, c .rank-of .ensures, c .rank-of-2 .ensures)) in
+pub take-off-returns-then-ranks-after : need.take-off-returns-then-ranks-after
+take-off-returns-then-ranks-after t c =
+    let after = sym (c .if-ranks-after .ensures tt) in
     step-out (c .args .rules .now) (c .args .states .now) (rankIn (c .args .ranks .now)) (c .args .r) (c .args .search .pile .at) (c .args .search .pile .top) (c .args .search .marks) (c .args .search .taken) _ (omega (arith, c .args .search .pile .room, c .if-pile-ge-PILE .left)) (sym (c .if-not-is-fresh .ensures tt .value)) after (c .put-out .ensures)
 
 pub take-off-returns : need.take-off-returns
 take-off-returns t c =
-    let after = le-ltb (rankIn (c .args .ranks .now) (c .args .r)) (rankIn (c .args .ranks .now) (getD (c .args .search .pile .at) (c .args .search .pile .top) 0)) (omega (arith, c .if-rank-of .left, c .rank-of .ensures, c .rank-of-2 .ensures)) in
+    let after = sym (c .if-ranks-after .ensures tt) in
     step-try (c .args .rules .now) (c .args .states .now) (rankIn (c .args .ranks .now)) (c .args .r) (c .args .search .pile .at) (c .args .search .pile .top) (c .args .search .marks) (c .args .search .taken) _ (omega (arith, c .args .search .pile .room, c .if-pile-ge-PILE .left)) (sym (c .if-not-is-fresh .ensures tt .value)) after (c .try-ways .ensures)
 
 pub try-ways-with-givers-pile-requires : need.try-ways-with-givers-pile-requires
@@ -64,10 +64,10 @@ try-ways-returns-in-Some t c =
     let pile = drop (c .args .search .pile .top) (c .args .search .pile .at) in
     let way : c .way-at-way .result ≡ getD ways (c .loop-i .i) noWay = c .way-at-way .ensures ∙ ap (λ (y : ℕ). getD (listed R y) (c .loop-i .i) noWay) (c .from .ensures) in
     let count : c .way-count-i-end .result ≡ length ways = c .way-count-i-end .ensures .value ∙ ap (λ (y : ℕ). length (listed R y)) (c .from .ensures) in
-    let free : bitAnd (c .args .search .taken) (getD ways (c .loop-i .i) noWay .mask) ≡ 0 = ap (λ (w : Way). bitAnd (c .args .search .taken) (w .mask)) (sym way) ∙ c .if-search-way-eq0 .taken in
+    let free : eqb (bitAnd (c .args .search .taken) (getD ways (c .loop-i .i) noWay .mask)) 0 ≡ true = ap (λ (w : Way). eqb (bitAnd (c .args .search .taken) (w .mask)) 0) (sym way) ∙ sym (c .if-is-free .ensures tt) in
     let cells = c .cells-of .ensures .value ∙ ap cellsOf way in
     let tried = moved R S K (c .args .r) (c .with-givers-pile .ensures .value ∙ ap (λ (cs : List ℕ). piled R S cs pile) cells) (c .written-marks .ensures) (ap (λ (w : Way). bitOr (c .args .search .taken) (w .mask)) way) (c .in-Some .ensures tt) in
-    c .loop-i .inv (Some (c .in-Some .found)) (tries-leads R S K (c .args .r) (c .args .x) pile (c .args .search .marks) (c .args .search .taken) ways (c .loop-i .i) (c .in-Some .found) (omega (arith, count, c .loop-i-test .taken)) (eq-eqb _ 0 free) tried)
+    c .loop-i .inv (Some (c .in-Some .found)) (tries-leads R S K (c .args .r) (c .args .x) pile (c .args .search .marks) (c .args .search .taken) ways (c .loop-i .i) (c .in-Some .found) (omega (arith, count, c .loop-i-test .taken)) free tried)
 
 pub try-ways-loop-i-again : need.try-ways-loop-i-again
 try-ways-loop-i-again t c o rest =
@@ -80,10 +80,10 @@ try-ways-loop-i-again t c o rest =
     let way : c .way-at-way .result ≡ getD ways (c .loop-i .i) noWay = c .way-at-way .ensures ∙ ap (λ (y : ℕ). getD (listed R y) (c .loop-i .i) noWay) (c .from .ensures) in
     let count : c .way-count-i-end .result ≡ length ways = c .way-count-i-end .ensures .value ∙ ap (λ (y : ℕ). length (listed R y)) (c .from .ensures) in
     let lt : c .loop-i .i < length ways = omega (arith, count, c .loop-i-test .taken) in
-    let masked = λ (w : Way). bitAnd taken (w .mask) in
-    c .loop-i .inv o (elim (c .if-search-way-eq0 .came) [
-      | try-ways-then-search-way-eq0·in-None w ↦ tries-fails R S K (c .args .r) (c .args .x) pile (c .args .search .marks) taken ways (c .loop-i .i) o lt (eq-eqb _ 0 (ap masked (sym way) ∙ w .if-search-way-eq0 .taken)) (moved R S K (c .args .r) (w .with-givers-pile .ensures .value ∙ ap (λ (cs : List ℕ). piled R S cs pile) (w .cells-of .ensures .value ∙ ap cellsOf way)) (w .written-marks .ensures) (ap (λ (v : Way). bitOr taken (v .mask)) way) (w .in-None .ensures tt)) rest
-      | try-ways-else-search-way-eq0 w ↦ tries-barred R S K (c .args .r) (c .args .x) pile (c .args .search .marks) taken ways (c .loop-i .i) o lt (ne-eqb _ 0 (λ e. w .if-search-way-eq0 .left (ap masked way ∙ e))) rest
+    let clear = λ (w : Way). eqb (bitAnd taken (w .mask)) 0 in
+    c .loop-i .inv o (elim (c .if-is-free .came) [
+      | try-ways-then-is-free·in-None w ↦ tries-fails R S K (c .args .r) (c .args .x) pile (c .args .search .marks) taken ways (c .loop-i .i) o lt (ap clear (sym way) ∙ sym (w .if-is-free .ensures tt)) (moved R S K (c .args .r) (w .with-givers-pile .ensures .value ∙ ap (λ (cs : List ℕ). piled R S cs pile) (w .cells-of .ensures .value ∙ ap cellsOf way)) (w .written-marks .ensures) (ap (λ (v : Way). bitOr taken (v .mask)) way) (w .in-None .ensures tt)) rest
+      | try-ways-else-is-free w ↦ tries-barred R S K (c .args .r) (c .args .x) pile (c .args .search .marks) taken ways (c .loop-i .i) o lt (ap clear (sym way) ∙ sym (w .if-is-free .ensures tt)) rest
     ])
 
 pub try-ways-returns : need.try-ways-returns

@@ -7,7 +7,6 @@ use placing::board::Board;
 use placing::board::Refused;
 use placing::board::RefusedDebug;
 use placing::board::RefusedPartialEq;
-use placing::ranks::Ranks;
 use placing::rules::NO_WAY;
 use placing::rules::RULES;
 use placing::rules::Rule;
@@ -21,6 +20,7 @@ use rankings::MEDIUM;
 use rankings::REQUIRED;
 use rankings::STRONG;
 use rankings::WEAK;
+use ranks::Ranks;
 use std::test::*;
 
 /// A board with the strengths of its rules.

@@ -23,7 +23,8 @@ use Rattle.placing.specs.declared.rules.Mark.the-variants.{PutOut, Fresh, Trie
 use Rattle.placing.specs.Board.{noWay, noRule, cellsOf, maskOf, lawfulWay, lawfulRule, listed, wayMask, stateOf, isStanding, isInForce, isWaiting, givenBy, gives, listedBy, Apart}
 use Rattle.placing.specs.Choice.{Choice, Choosable, WithBetter}
 use Rattle.placing.specs.Search.{isFresh, freshAt, marked, applied, Leads, Places}
-use Rattle.placing.specs.Laws.{IsBoard, Distinct, Placed}
+use Rattle.placing.specs.Laws.{IsBoard, Placed}
+use Rattle.ranks.specs.Numbers.{Distinct}
 use Rattle.placing.proofs.Givers.{InForceAt, On, mask-cell}
 use Rattle.placing.proofs.Sound.{Kept, leads-kept}
 

@@ -9,7 +9,4 @@ pub mod Settling
 pub mod Writing
 pub mod OneResult
 pub mod Steps
-pub mod RankNumbers
 pub mod Empty
-pub mod Counting
-pub mod RankOrder

@@ -17,7 +17,8 @@ use Rattle.placing.specs.declared.rules.Mark.the-variants.{PutOut, Fresh, Trie
 use Rattle.placing.specs.Board.{wayMask, gives, stateOf, isInForce, isWaiting}
 use Rattle.placing.specs.Choice.{Choosable, WithBetter}
 use Rattle.placing.specs.Search.{applied, Places}
-use Rattle.placing.specs.Laws.{IsBoard, Distinct, Placed, PlacingLaws, PlacingIsLawful}
+use Rattle.placing.specs.Laws.{IsBoard, Placed, PlacingLaws, PlacingIsLawful}
+use Rattle.ranks.specs.Numbers.{Distinct}
 use Rattle.placing.proofs.Single.{some-none, some-same, leads-single}
 use Rattle.placing.proofs.Complete.{leads-complete}
 use Rattle.placing.proofs.Sound.{Kept, leads-kept}

@@ -16,7 +16,8 @@ use Rattle.placing.specs.Board.{noWay, listed, wayMask, stateOf, isStanding, i
 use Rattle.placing.specs.Choice.{Choice, Choosable, WithBetter, SettledAt, Settled}
 use Rattle.placing.specs.Search.{Places}
 use Rattle.placing.specs.Calls.{Passes}
-use Rattle.placing.specs.Laws.{IsBoard, Distinct, Below64, Placed}
+use Rattle.placing.specs.Laws.{IsBoard, Placed}
+use Rattle.ranks.specs.Numbers.{Distinct, Below64}
 use Rattle.placing.proofs.After.{force-choice}
 use Rattle.placing.proofs.Placing.{placing-is-lawful}
 

@@ -17,18 +17,20 @@ use Rattle.placing.specs.declared.rules.State.the-variants.{Absent, Waiting, I
 use Rattle.std.specs.declared.result.Result.{Result}
 use Rattle.std.specs.declared.result.Result.the-variants.{Ok, Err}
 use Rattle.std.specs.declared.option.Option.the-variants.{Some, None}
-use Rattle.placing.specs.declared.ranks.Ranks.{Ranks as RankTable}
+use Rattle.ranks.specs.declared.Ranks.{Ranks as RankTable}
 use Rattle.placing.specs.declared.board.Board.{Board}
 use Rattle.placing.specs.declared.board.Added.{Added}
 use Rattle.placing.specs.declared.board.Refused.{Refused}
 use Rattle.placing.specs.Board.{noWay, noRule, listed, wayMask, stateOf, isStanding, isWaiting, isInForce, givenBy, gives, listedBy, Apart, lawfulRule, LawfulRules}
 use Rattle.placing.specs.Choice.{WithBetter, SettledAt, Settled}
-use Rattle.placing.specs.Search.{rankIn, Places}
+use Rattle.placing.specs.Search.{Places}
+use Rattle.ranks.specs.Numbers.{rankIn}
 use Rattle.placing.specs.Calls.{Passes, Adds, Removes}
 use Rattle.placing.specs.Answers.{isRule, addRefusal, removeRefusal, AddsTo, RemovesFrom}
-use Rattle.placing.specs.Laws.{IsBoard, Distinct, Below64, SettlingLaws, CallsSettle}
+use Rattle.placing.specs.Laws.{IsBoard, SettlingLaws, CallsSettle}
+use Rattle.ranks.specs.Numbers.{Distinct, Below64}
 use Rattle.placing.proofs.Single.{some-none}
-use Rattle.placing.proofs.RankNumbers.{not-shared}
+use Rattle.ranks.proofs.RankNumbers.{not-shared}
 use Rattle.placing.proofs.After.{gives-nothing}
 use Rattle.placing.proofs.Placing.{placing-is-lawful}
 use Rattle.placing.proofs.Settling.{settled-same, settled-absent, past-absent, force-stands, stepped, step-settles, Passed, pass-settles, pass-board}

@@ -1,10 +1,10 @@
 -- What a board is, and the laws of placing.
 use mathlib.Core.Path.{_≡_}
-use mathlib.Core.Bool.{Bool, true, false, not, _&&_}
+use mathlib.Core.Bool.{Bool, true, false}
 use mathlib.Core.List.{List}
 use Prim.Native.Nat.{ℕ, _<_}
-use lib.Dec.{ltb, eqb}
 use lib.ListN.{length, set}
+use Rattle.ranks.specs.Numbers.{Distinct, Below64}
 use Rattle.placing.specs.declared.rules.Rule.{Rule}
 use Rattle.placing.specs.declared.rules.State.{State}
 use Rattle.placing.specs.Board.{listed, stateOf, isStanding, isWaiting, isInForce, NoTwoGivers, SelectedListed, lawfulRule, LawfulRules}
@@ -19,14 +19,6 @@ pub record IsBoard (rules : List Rule) (states : List State) : Type 0 where
   pub lawful : LawfulRules rules
   pub no-two-givers : NoTwoGivers rules states
   pub selected-listed : SelectedListed rules states
-
--- No two of the sixty-four rules have one rank.
-abbrev pub Distinct : (ℕ → ℕ) → Type 0
-Distinct rank = (x y : ℕ) → x < 64 → y < 64 → rank x ≡ rank y → x ≡ y
-
--- Whether two rules share a rank: a test, which no two rules of distinct ranks pass.
-abbrev pub shareRank : (ℕ → ℕ) → ℕ → ℕ → Bool
-shareRank rank x y = ltb x 64 && (ltb y 64 && (eqb (rank x) (rank y) && not (eqb x y)))
 
 -- What a placing that succeeds leaves.
 pub record Placed (rules : List Rule) (states : List State) (rank : ℕ → ℕ) (r : ℕ) (after : List State) : Type 0 where
@@ -53,10 +45,6 @@ pub record PlacingLaws (rules : List Rule) (states : List State) (rank : ℕ →
 -- The laws hold on every board, for every waiting rule and all ranks that are distinct.
 abbrev pub PlacingIsLawful : Type 0
 PlacingIsLawful = (rules : List Rule) (states : List State) (rank : ℕ → ℕ) (r : ℕ) → IsBoard rules states → Distinct rank → r < 64 → isWaiting (stateOf states r) ≡ true → PlacingLaws rules states rank r
-
--- All ranks of the sixty-four rules are below 64.
-abbrev pub Below64 : (ℕ → ℕ) → Type 0
-Below64 rank = (x : ℕ) → x < 64 → rank x < 64
 
 -- Adding any rule to a settled board, and removing any rule from one, leaves a settled board; so does the pass down.
 pub record SettlingLaws (rules : List Rule) (states : List State) (rank : ℕ → ℕ) (r : ℕ) : Type 0 where

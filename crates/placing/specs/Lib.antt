@@ -2,6 +2,5 @@ pub mod Board
 pub mod Choice
 pub mod Search
 pub mod Calls
-pub mod RankOrder
 pub mod Answers
 pub mod Laws

@@ -40,10 +40,6 @@ abbrev pub piled : List Rule → List State → List ℕ → List ℕ → List �
 piled rules states [] pile = pile
 piled rules states (c ∷ cs) pile = piled rules states cs (giver rules states c ++ pile)
 
--- The rank of a rule, by a list of ranks.
-abbrev pub rankIn : List ℕ → ℕ → ℕ
-rankIn ranks x = getD ranks x 0
-
 -- A rule or none, as a list.
 abbrev pub oneOf : Option ℕ → List ℕ
 oneOf (Some x) = x ∷ []

@@ -5,7 +5,7 @@ ghost use lib.ListN.{getD, replicate};
 ghost use Rattle.placing.specs.declared.rules.State.the-variants.{Absent};
 ghost use Rattle.placing.specs.Board.{stateOf, isStanding, noRule, wayBy, emptyRule};
 ghost use Rattle.placing.specs.Choice.{Settled};
-ghost use Rattle.placing.specs.Search.{rankIn};
+ghost use Rattle.ranks.specs.Numbers.{rankIn};
 ghost use Rattle.placing.specs.Answers.{AddsTo, RemovesFrom, isRule};
 ghost use Rattle.placing.specs.Laws.{IsBoard};
 use crate::board::Added;
@@ -15,13 +15,13 @@ use crate::lawful::is_lawful;
 use crate::passes::changed;
 use crate::passes::with_rule;
 use crate::passes::without_rule;
-use crate::ranks::Ranks;
 use crate::rules::NO_RULE;
 use crate::rules::RULES;
 use crate::rules::Rule;
 use crate::rules::State;
 use crate::rules::Way;
 use crate::search::way_at;
+use ranks::Ranks;
 
 impl Board {
     /// A board on which no rule stands.

@@ -5,6 +5,5 @@ mod calls;
 mod lawful;
 pub mod laws;
 mod passes;
-pub mod ranks;
 pub mod rules;
 mod search;

@@ -3,9 +3,7 @@
 ghost use mathlib.Core.Path.{_≡_};
 ghost use Prim.Native.Nat.{_<_};
 ghost use lib.ListN.{set};
-
-/// The number of rules on a board, and of cells.
-pub const RULES: usize = 64;
+pub use ranks::RULES;
 
 /// One listed way of a rule: its number, and its outputs in place order and as a mask of cells.
 #[derive(Clone, Copy)]

@@ -7,7 +7,6 @@ use calculators::quantities::Quantities;
 use calculators::quantities::QuantityCalculator;
 use meaning::Calculator;
 use placing::board::Board;
-use placing::ranks::Ranks;
 use placing::rules::NO_WAY;
 use placing::rules::RULES;
 use placing::rules::Rule;
@@ -18,6 +17,7 @@ use rankings::Classes;
 use rankings::MEDIUM;
 use rankings::REQUIRED;
 use rankings::STRONG;
+use ranks::Ranks;
 use std::io;
 
 /// A rule as it is keyed: its kind, its class, its places and the ways that it lists.

@@ -2,7 +2,7 @@ use mathlib.Core.Path.{subst}
 use Prim.Native.Nat.{_+_, _-_}
 use mathlib.Core.List.{List}
 use Rattle.placing.specs.declared.rules.State.{State}
-use Rattle.placing.specs.Search.{rankIn}
+use Rattle.ranks.specs.Numbers.{rankIn}
 use Rattle.placing.specs.Calls.{Passes}
 use Rattle.placing.proofs.Steps.{pass-end, pass-skip, pass-place}
 use Rattle.placing.proofs.passes.pass_down.Needs as need

@@ -2,7 +2,7 @@
 use mathlib.Core.List.{List}
 use Prim.Native.Nat.{_-_}
 use Rattle.placing.specs.declared.rules.State.{State}
-use Rattle.placing.specs.Search.{rankIn}
+use Rattle.ranks.specs.Numbers.{rankIn}
 use Rattle.placing.specs.Calls.{Passes}
 use Rattle.placing.proofs.passes.pass_down.Given as given
 

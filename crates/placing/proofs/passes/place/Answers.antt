@@ -3,7 +3,8 @@ use mathlib.Core.Path.{sym, subst}
 use mathlib.Core.Bool.{true}
 use mathlib.Core.List.{List}
 use Rattle.placing.specs.declared.rules.State.{State}
-use Rattle.placing.specs.Search.{rankIn, Places}
+use Rattle.placing.specs.Search.{Places}
+use Rattle.ranks.specs.Numbers.{rankIn}
 use Rattle.placing.proofs.Steps.{moved}
 use Rattle.placing.proofs.passes.place.Needs as need
 

@@ -3,7 +3,7 @@ use mathlib.Core.Path.{_≡_}
 use mathlib.Core.Bool.{false}
 use Prim.Native.Nat.{ℕ, _<_}
 use Rattle.placing.specs.Board.{stateOf, isWaiting}
-use Rattle.placing.specs.Search.{rankIn}
+use Rattle.ranks.specs.Numbers.{rankIn}
 use Rattle.placing.proofs.passes.waiting_at.Given as given
 
 abbrev pub Inv-loop-x : given.InvT-loop-x

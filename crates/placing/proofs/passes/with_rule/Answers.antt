@@ -1,5 +1,5 @@
 use mathlib.Core.Path.{sym}
-use Rattle.placing.specs.Search.{rankIn}
+use Rattle.ranks.specs.Numbers.{rankIn}
 use Rattle.placing.proofs.Steps.{adds-waits, adds-comes}
 use Rattle.placing.proofs.passes.with_rule.Needs as need
 

@@ -1,7 +1,7 @@
 use mathlib.Core.Path.{sym, ap, _∙_}
 use Prim.Native.Nat.{ℕ}
 use Rattle.placing.specs.Board.{stateOf, isWaiting}
-use Rattle.placing.specs.Search.{rankIn}
+use Rattle.ranks.specs.Numbers.{rankIn}
 use Rattle.placing.proofs.Steps.{removes-waited, removes-gave}
 use Rattle.placing.proofs.passes.without_rule.Needs as need
 

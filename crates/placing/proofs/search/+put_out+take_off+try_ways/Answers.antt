@@ -12,7 +12,8 @@ use Rattle.placing.specs.declared.rules.Way.{Way}
 use Rattle.placing.specs.declared.rules.Mark.{Mark}
 use Rattle.placing.specs.declared.rules.Mark.the-variants.{PutOut, Tried}
 use Rattle.placing.specs.Board.{noWay, cellsOf, listed}
-use Rattle.placing.specs.Search.{freshCount, piled, rankIn}
+use Rattle.placing.specs.Search.{freshCount, piled}
+use Rattle.ranks.specs.Numbers.{rankIn}
 use Rattle.placing.proofs.Marks.{fresh-less}
 use Rattle.placing.proofs.Steps.{step-empty, step-over, step-out, step-try, moved, tries-spent, tries-barred, tries-leads, tries-fails}
 use Rattle.placing.proofs.search.+put_out+take_off+try_ways.Needs as need

@@ -7,7 +7,8 @@ use Rattle.std.specs.declared.option.Option.{Option}
 use Rattle.placing.specs.declared.rules.Mark.{Mark}
 use Rattle.placing.specs.declared.search.Search.{Search}
 use Rattle.placing.specs.Board.{listed}
-use Rattle.placing.specs.Search.{freshCount, rankIn, Tries}
+use Rattle.placing.specs.Search.{freshCount, Tries}
+use Rattle.ranks.specs.Numbers.{rankIn}
 use Rattle.placing.proofs.search.+put_out+take_off+try_ways.Given as given
 
 abbrev left : Search → ℕ

@@ -9,10 +9,11 @@ use Rattle.std.proofs.shelf.Tests.{and-parts}
 use Rattle.placing.specs.declared.rules.Rule.{Rule}
 use Rattle.std.specs.declared.result.Result.the-variants.{Ok}
 use Rattle.placing.specs.Board.{lawfulRule}
-use Rattle.placing.specs.Search.{rankIn}
+use Rattle.ranks.specs.Numbers.{rankIn}
 use Rattle.placing.specs.Answers.{AddsTo}
-use Rattle.placing.specs.Laws.{IsBoard, Distinct}
-use Rattle.placing.proofs.RankNumbers.{not-shared}
+use Rattle.placing.specs.Laws.{IsBoard}
+use Rattle.ranks.specs.Numbers.{Distinct}
+use Rattle.ranks.proofs.RankNumbers.{not-shared}
 use Rattle.placing.proofs.Writing.{adds-board, board-of, add-settles}
 use Rattle.placing.proofs.board.Board.add.Needs as need
 

@@ -5,10 +5,10 @@ use Prim.Native.Nat.{ℕ}
 use native.Mathlib.Omega.{arith}
 use borrow.Author.Needs.{needs}
 use Rattle.std.specs.declared.result.Result.the-variants.{Ok}
-use Rattle.placing.specs.Search.{rankIn}
+use Rattle.ranks.specs.Numbers.{rankIn}
 use Rattle.placing.specs.Answers.{RemovesFrom}
-use Rattle.placing.specs.Laws.{Distinct}
-use Rattle.placing.proofs.RankNumbers.{not-shared}
+use Rattle.ranks.specs.Numbers.{Distinct}
+use Rattle.ranks.proofs.RankNumbers.{not-shared}
 use Rattle.placing.proofs.Writing.{removes-board, board-of, remove-settles}
 use Rattle.placing.proofs.board.Board.remove.Needs as need
 

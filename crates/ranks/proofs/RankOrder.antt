@@ -14,9 +14,9 @@ use Rattle.meaning.specs.declared.Order.{Order}
 use Rattle.meaning.specs.declared.Order.the-variants.{Before, Level, After}
 use Rattle.meaning.specs.Masks.{bit}
 use Rattle.meaning.specs.Ranks.{Ranks, RankLaws, exchanged, notAfter}
-use Rattle.placing.specs.RankOrder.{strengthAt, ifKnown, strengthOf, orNumber, precedes, ranksBefore, countBelow, rankNumber, Orders}
-use Rattle.placing.specs.Laws.{Distinct, Below64}
-use Rattle.placing.proofs.Counting.{count-all, count-less}
+use Rattle.ranks.specs.RankOrder.{strengthAt, ifKnown, strengthOf, orNumber, precedes, ranksBefore, countBelow, rankNumber, Orders}
+use Rattle.ranks.specs.Numbers.{Distinct, Below64}
+use Rattle.ranks.proofs.Counting.{count-all, count-less}
 
 ltb-self : (x : ℕ) → ltb x x ≡ false
 ltb-self x = le-ltb x x (omega arith)

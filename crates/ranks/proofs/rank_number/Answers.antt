@@ -2,9 +2,9 @@ use mathlib.Core.Path.{_≡_, sym, ap, _∙_}
 use mathlib.Core.Bool.{Bool, cond}
 use Prim.Native.Nat.{ℕ, _+_}
 use native.Mathlib.Omega.{arith}
-use Rattle.placing.specs.RankOrder.{ranksBefore, countBelow}
-use Rattle.placing.proofs.Counting.{count-none, count-one}
-use Rattle.placing.proofs.ranks.rank_number.Needs as need
+use Rattle.ranks.specs.RankOrder.{ranksBefore, countBelow}
+use Rattle.ranks.proofs.Counting.{count-none, count-one}
+use Rattle.ranks.proofs.rank_number.Needs as need
 
 pub loop-y-holds : need.loop-y-holds
 loop-y-holds g c = (sym (count-none (λ z. ranksBefore (g .R·Ranking .meaning (c .args .ranking .now)) (c .args .strengths .now) (c .args .standing) z (c .args .x))), omega arith)

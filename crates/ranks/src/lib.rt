@@ -4,14 +4,15 @@ ghost use mathlib.Core.Path.{_≡_};
 ghost use Prim.Native.Nat.{ℕ, _≤_, _<_};
 ghost use mathlib.Core.Bool.{false, cond};
 ghost use lib.ListN.{length};
-ghost use Rattle.placing.specs.Search.{rankIn};
-ghost use Rattle.placing.specs.Laws.{shareRank};
+ghost use Rattle.ranks.specs.Numbers.{rankIn, shareRank};
 ghost use Rattle.std.specs.declared.option.Option.the-variants.{Some};
-ghost use Rattle.placing.specs.RankOrder.{strengthAt, ifKnown, strengthOf, precedes as precedesBy, ranksBefore, rankNumber, Orders};
-use crate::rules::RULES;
+ghost use Rattle.ranks.specs.RankOrder.{strengthAt, ifKnown, strengthOf, precedes as precedesBy, ranksBefore, rankNumber, Orders};
 use meaning::Order;
 use meaning::Ranking;
 use meaning::masks::has_bit;
+
+/// The number of rules that are ranked.
+pub const RULES: usize = 64;
 
 /// A rank number below 64 for each of the sixty-four rules, no two the same.
 #[derive(Clone, Copy)]
@@ -37,7 +38,7 @@ impl Ranks {
     }
 
     /// The rank numbers, by rule.
-    pub(crate) fn numbers(&self) -> &[u8; RULES]
+    pub fn numbers(&self) -> &[u8; RULES]
         ensures { λ r. ⌜ now r ≡ now (self .entry) .of ⌝ }
     {
         &self.of

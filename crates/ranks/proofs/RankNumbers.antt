@@ -5,7 +5,7 @@ use mathlib.Core.Logic.{⊎-elim}
 use Prim.Native.Nat.{ℕ, _<_}
 use lib.Dec.{ltb, eqb}
 use Rattle.std.proofs.shelf.Tests.{both-ways, cases-eq, cases-bool, and-parts, and-from, lt-ltb, ltb-true, eq-eqb, eqb-true, ne-eqb, not-from-false, not-true, eqb-false}
-use Rattle.placing.specs.Laws.{Distinct, shareRank}
+use Rattle.ranks.specs.Numbers.{Distinct, shareRank}
 
 pub not-shared : (rank : ℕ → ℕ) → ((x y : ℕ) → shareRank rank x y ≡ false) → Distinct rank
 not-shared rank none x y hx hy e =

@@ -5,11 +5,11 @@ use borrow.Author.Count.{below-more}
 use lib.Dec.{ltb}
 use lib.ListN.{length, getD, set, length-set}
 use lib.Seq.{getD-set-same, getD-set-other}
-use Rattle.placing.specs.Search.{rankIn}
-use Rattle.placing.specs.RankOrder.{rankNumber}
-use Rattle.placing.proofs.RankNumbers.{shared-not}
-use Rattle.placing.proofs.RankOrder.{rank-orders, rank-below, rank-distinct}
-use Rattle.placing.proofs.ranks.Ranks.new.Needs as need
+use Rattle.ranks.specs.Numbers.{rankIn}
+use Rattle.ranks.specs.RankOrder.{rankNumber}
+use Rattle.ranks.proofs.RankNumbers.{shared-not}
+use Rattle.ranks.proofs.RankOrder.{rank-orders, rank-below, rank-distinct}
+use Rattle.ranks.proofs.Ranks.new.Needs as need
 
 pub loop-x-again : need.loop-x-again
 loop-x-again g c =

@@ -6,7 +6,7 @@ use Prim.Native.Nat.{ℕ, zero, suc, _+_, _≤_, _<_}
 use native.Mathlib.Numerals.{add-one}
 use native.Mathlib.Omega.{arith}
 use Rattle.std.proofs.shelf.Tests.{cases-bool, cases-eq, cond-true, cond-false}
-use Rattle.placing.specs.RankOrder.{countBelow}
+use Rattle.ranks.specs.RankOrder.{countBelow}
 
 pub count-none : (p : ℕ → Bool) → countBelow p 0 ≡ 0
 unfolding countBelow

@@ -209,6 +209,27 @@ fn a_waiting_rule_comes_back() -> Result<(), Fail> {
     check_eq(desk.remove(1), Ok(0))
 }
 
+// The seven rules of a reel: with the weight entered the length is worked out; without the entered width, the width.
+#[test]
+fn seven_rules_of_a_reel() -> Result<(), Fail> {
+    let mut desk = Desk::new();
+    check_eq(
+        desk.add(0, REQUIRED, among(one(2), one(0), one(1))),
+        came(0),
+    )?;
+    check_eq(desk.add(1, REQUIRED, either(one(4), one(2))), came(0))?;
+    check_eq(desk.add(2, REQUIRED, only(one(5))), came(0))?;
+    check_eq(desk.add(3, STRONG, only(one(3))), came(0))?;
+    check_eq(desk.add(4, STRONG, only(one(0))), came(0))?;
+    check_eq(desk.add(5, MEDIUM, only(one(1))), came(0))?;
+    check_eq(desk.add(6, STRONG, only(one(4))), came(3))?;
+    desk.is_by(0, &[2, 1, 0, 0, 0])?;
+    check_eq(desk.board.state(5), State::Waiting)?;
+    check_eq(desk.remove(4), Ok(2))?;
+    check_eq(desk.board.state(0), State::InForce(1))?;
+    check_eq(desk.board.state(5), State::InForce(0))
+}
+
 #[test]
 fn calls_refuse_in_order() -> Result<(), Fail> {
     let mut desk = Desk::new();

@@ -6,7 +6,9 @@ use calculators::quantities::PRODUCT;
 use calculators::quantities::Quantities;
 use calculators::quantities::QuantityCalculator;
 use meaning::Calculator;
+use placing::board::Added;
 use placing::board::Board;
+use placing::board::Refused;
 use placing::rules::NO_WAY;
 use placing::rules::RULES;
 use placing::rules::Rule;
@@ -121,12 +123,24 @@ fn listed(rule: &Keyed) -> Rule {
     Rule { ways, count }
 }
 
+/// Prints the answer to an addition.
+fn print_answer(rt: &LibcRuntime, r: u8, answer: Result<Added, Refused>) -> io::Result<()> {
+    match answer {
+        Ok(added) => {
+            let word = if added.in_force { "in force" } else { "waits" };
+            let changed = added.changed;
+            print!(rt, "  rule {r} {word}, {changed} changed")
+        }
+        Err(_) => print!(rt, "  rule {r} refused"),
+    }
+}
+
 /// Prints who is in force by which way, and who waits.
 fn print_states(rt: &LibcRuntime, board: &Board) -> io::Result<()> {
     for r in 0..64u8 {
         match board.state(r) {
             State::Absent => {}
-            State::Waiting => print!(rt, ", {r} waits")?,
+            State::Waiting => print!(rt, "; {r} waits")?,
             State::InForce(_) => print_way(rt, board, r)?,
         }
     }
@@ -138,7 +152,7 @@ fn print_way(rt: &LibcRuntime, board: &Board, r: u8) -> io::Result<()> {
     match board.way(r) {
         Some(way) => {
             let number = way.number;
-            print!(rt, ", {r} by way {number}")
+            print!(rt, "; {r} by way {number}")
         }
         None => Ok(()),
     }
@@ -157,8 +171,8 @@ pub fn print_board(rt: &LibcRuntime) -> io::Result<()> {
         }
         standing |= bit(r);
         let ranks = Ranks::new(&Classes, &classes, standing);
-        let _ = board.add(&ranks, r, listed(&rule));
-        print!(rt, "  rule {r} added")?;
+        let answer = board.add(&ranks, r, listed(&rule));
+        print_answer(rt, r, answer)?;
         print_states(rt, &board)?;
         r = r.saturating_add(1);
     }

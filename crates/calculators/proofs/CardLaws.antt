@@ -7,7 +7,7 @@ use native.Mathlib.Omega.{arith}
 use lib.ListN.{getD}
 use Rattle.std.specs.shelf.Lists.{All}
 use Rattle.std.proofs.shelf.Tests.{and-parts, and-from}
-use Rattle.meaning.specs.Calc.{Answer, CalcLaws, Proper}
+use Rattle.meaning.specs.Calc.{CalcLaws, Proper}
 use Rattle.meaning.proofs.Lists.{all-read}
 use Rattle.calculators.specs.declared.cards.CardFigure.{CardFigure}
 use Rattle.calculators.specs.declared.cards.CardFigure.the-variants.{Code, Card}

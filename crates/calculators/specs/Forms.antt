@@ -1,7 +1,6 @@
 -- The form of a kind: how many places and ways it has, and which places each way gives. A calculator's forms stand in one
 -- table by kind, and a test of that table decides whether its kinds have a lawful shape.
-use mathlib.Core.Path.{_≡_}
-use mathlib.Core.Bool.{Bool, true, _&&_}
+use mathlib.Core.Bool.{Bool, _&&_}
 use mathlib.Core.List.{List, [], _∷_}
 use Prim.Native.Nat.{ℕ, _^_}
 use lib.Dec.{ltb, leb, eqb}

@@ -1,5 +1,5 @@
 -- A ranking and a calculator at the edge of the laws: they keep every one, and say as little as can be said.
-use mathlib.Core.Bool.{Bool, true}
+use mathlib.Core.Bool.{true}
 use Prim.Native.Nat.{ℕ}
 use lib.Dec.{eqb}
 use Rattle.meaning.specs.declared.Order.the-variants.{Level}

@@ -1,32 +1,29 @@
 -- A success leaves a board on which the placed rule is in force, and a choice.
 use mathlib.Core.Path.{_≡_, refl, sym, ap, subst, _∙_}
-use mathlib.Core.Bool.{Bool, true, false, _&&_}
+use mathlib.Core.Bool.{true, false, _&&_}
 use mathlib.Core.List.{List, [], _∷_}
 use mathlib.Core.Logic.{_⊎_, inl, inr, ⊎-elim}
 use Prim.Native.Nat.{ℕ, zero, suc, _≤_, _<_}
 use native.Mathlib.Omega.{arith}
-use lib.Bits.{bitAnd, and-zero-l, and-zero-r, and-comm}
+use lib.Bits.{and-zero-l, and-zero-r, and-comm}
 use lib.Dec.{leb, ltb, eqb}
-use lib.ListN.{length, getD, replicate, take, getD-replicate, length-replicate}
-use Rattle.std.specs.declared.option.Option.the-variants.{Some, None}
+use lib.ListN.{length, getD}
 use Rattle.std.proofs.shelf.Lists.{getD-past, getD-default}
 use Rattle.std.proofs.shelf.Tests.{both-ways, cases-lt, cases-bool, and-parts, eqb-true, ltb-true, lt-ltb}
 use Rattle.meaning.specs.Lists.{every}
 use Rattle.meaning.specs.Masks.{bit}
 use Rattle.meaning.proofs.Lists.{every-at}
-use Rattle.placing.specs.declared.rules.Way.{Way}
 use Rattle.placing.specs.declared.rules.Rule.{Rule}
 use Rattle.placing.specs.declared.rules.State.{State}
 use Rattle.placing.specs.declared.rules.State.the-variants.{Absent, Waiting, InForce}
 use Rattle.placing.specs.declared.rules.Mark.{Mark}
 use Rattle.placing.specs.declared.rules.Mark.the-variants.{PutOut, Fresh, Tried}
 use Rattle.placing.specs.Board.{noWay, noRule, cellsOf, maskOf, lawfulWay, lawfulRule, listed, wayMask, stateOf, isStanding, isInForce, isWaiting, givenBy, gives, listedBy, Apart}
-use Rattle.placing.specs.Choice.{Choice, Choosable, WithBetter}
-use Rattle.placing.specs.Search.{isFresh, freshAt, marked, applied, Leads, Places}
+use Rattle.placing.specs.Choice.{Choosable}
+use Rattle.placing.specs.Search.{isFresh, freshAt, marked, applied}
 use Rattle.placing.specs.Laws.{IsBoard, Placed}
-use Rattle.ranks.specs.Numbers.{Distinct}
 use Rattle.placing.proofs.Givers.{InForceAt, On, mask-cell}
-use Rattle.placing.proofs.Sound.{Kept, leads-kept}
+use Rattle.placing.proofs.Sound.{Kept}
 
 -- Each state as its mark says.
 pub applied-at : (states : List State) (marks : List Mark) (x : ℕ) → length states ≡ length marks → getD (applied states marks) x Absent ≡ marked (getD states x Absent) (getD marks x Fresh)

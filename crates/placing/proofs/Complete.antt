@@ -1,16 +1,16 @@
 -- The search fails only if there is no choice of one listed way each, without a shared output, for the placed rule and the
 -- rules in force that rank before it.
-use mathlib.Core.Path.{_≡_, refl, sym, ap, subst, _∙_}
-use mathlib.Core.Bool.{Bool, true, false}
-use mathlib.Core.List.{List, [], _∷_}
+use mathlib.Core.Path.{_≡_, refl, sym, subst}
+use mathlib.Core.Bool.{true, false}
+use mathlib.Core.List.{List}
 use mathlib.Core.Logic.{_⊎_, inl, inr, ⊎-elim}
-use Prim.Native.Nat.{ℕ, zero, suc, _≤_, _<_}
+use Prim.Native.Nat.{ℕ, _≤_}
 use native.Mathlib.Omega.{arith}
-use lib.Bits.{bitAnd, bitOr, and-comm}
-use lib.Dec.{ltb, eqb}
-use lib.ListN.{length, getD, set, drop}
+use lib.Bits.{bitOr}
+use lib.Dec.{ltb}
+use lib.ListN.{set, drop}
 use Rattle.std.specs.declared.option.Option.{Option}
-use Rattle.std.specs.declared.option.Option.the-variants.{Some, None}
+use Rattle.std.specs.declared.option.Option.the-variants.{None}
 use Rattle.std.specs.shelf.Lists.{All}
 use Rattle.std.proofs.shelf.Tests.{both-ways, cases-eq, eq-eqb, ltb-false}
 use Rattle.meaning.proofs.MaskBits.{apart-or}
@@ -21,7 +21,7 @@ use Rattle.placing.specs.declared.rules.Mark.{Mark}
 use Rattle.placing.specs.declared.rules.Mark.the-variants.{PutOut, Tried}
 use Rattle.placing.specs.Board.{noWay, cellsOf, listed, wayMask, Apart}
 use Rattle.placing.specs.Choice.{Choice, WithBetter}
-use Rattle.placing.specs.Search.{freshAt, piled, Leads, Tries}
+use Rattle.placing.specs.Search.{freshAt, Leads, Tries}
 use Rattle.placing.proofs.Marks.{fresh-before, drop-front, drop-none}
 use Rattle.placing.proofs.Givers.{InForceAt, piled-all}
 

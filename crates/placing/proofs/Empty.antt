@@ -1,15 +1,15 @@
 -- Sixty-four empty rules, all absent, are a board.
-use mathlib.Core.Path.{_≡_, refl, sym, ap, _∙_}
+use mathlib.Core.Path.{_≡_, ap}
 use mathlib.Core.Bool.{true}
 use mathlib.Core.Logic.{⊎-elim}
-use Prim.Native.Nat.{ℕ, _≤_, _<_}
+use Prim.Native.Nat.{ℕ}
 use native.Mathlib.Omega.{arith}
 use lib.Bits.{and-zero-l}
-use lib.ListN.{length, getD, replicate, getD-replicate, length-replicate}
+use lib.ListN.{getD, replicate, getD-replicate, length-replicate}
 use Rattle.std.proofs.shelf.Lists.{getD-past}
 use Rattle.std.proofs.shelf.Tests.{cases-lt}
 use Rattle.placing.specs.declared.rules.State.the-variants.{Absent}
-use Rattle.placing.specs.Board.{noRule, emptyRule, stateOf, givenBy, gives, listedBy, lawfulRule}
+use Rattle.placing.specs.Board.{noRule, emptyRule, stateOf, gives, listedBy, lawfulRule}
 use Rattle.placing.specs.Laws.{IsBoard}
 
 all-absent : (x : ℕ) → stateOf (replicate 64 Absent) x ≡ Absent

@@ -6,18 +6,16 @@ use mathlib.Core.Logic.{_⊎_, inl, inr, ⊎-elim}
 use Prim.Native.Nat.{ℕ, _≤_, _<_}
 use native.Mathlib.Omega.{arith}
 use lib.Bits.{and-zero-l}
-use lib.ListN.{length, getD, replicate, getD-replicate, length-replicate}
-use Rattle.std.specs.declared.option.Option.the-variants.{Some, None}
+use lib.ListN.{getD, replicate, getD-replicate, length-replicate}
 use Rattle.std.proofs.shelf.Lists.{getD-past}
 use Rattle.std.proofs.shelf.Tests.{cases-lt}
 use Rattle.placing.specs.declared.rules.Rule.{Rule}
 use Rattle.placing.specs.declared.rules.State.{State}
-use Rattle.placing.specs.declared.rules.Mark.{Mark}
 use Rattle.placing.specs.declared.rules.Mark.the-variants.{PutOut, Fresh, Tried}
 use Rattle.placing.specs.Board.{wayMask, gives, stateOf, isInForce, isWaiting}
 use Rattle.placing.specs.Choice.{Choosable, WithBetter}
 use Rattle.placing.specs.Search.{applied, Places}
-use Rattle.placing.specs.Laws.{IsBoard, Placed, PlacingLaws, PlacingIsLawful}
+use Rattle.placing.specs.Laws.{IsBoard, Placed, PlacingIsLawful}
 use Rattle.ranks.specs.Numbers.{Distinct}
 use Rattle.placing.proofs.Single.{some-none, some-same, leads-single}
 use Rattle.placing.proofs.Complete.{leads-complete}

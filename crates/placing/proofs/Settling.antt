@@ -1,23 +1,23 @@
 -- The pass down settles every rule that it comes by, so adding and removing keep a board settled.
 use mathlib.Core.Path.{_≡_, refl, sym, ap, subst, _∙_}
 use mathlib.Core.Bool.{Bool, true, false}
-use mathlib.Core.List.{List, [], _∷_}
+use mathlib.Core.List.{List}
 use mathlib.Core.Logic.{_⊎_, inl, inr, ⊎-elim}
-use Prim.Native.Nat.{ℕ, zero, suc, _+_, _-_, _≤_, _<_}
+use Prim.Native.Nat.{ℕ, suc, _+_, _-_, _≤_, _<_}
 use native.Mathlib.Omega.{arith}
-use lib.ListN.{length, getD, set}
+use lib.ListN.{length, getD}
 use Rattle.std.proofs.shelf.Lists.{getD-past}
 use Rattle.std.proofs.shelf.Tests.{both-ways, cases-lt, cases-eq, cases-bool}
 use Rattle.placing.specs.declared.rules.Way.{Way}
 use Rattle.placing.specs.declared.rules.Rule.{Rule}
 use Rattle.placing.specs.declared.rules.State.{State}
 use Rattle.placing.specs.declared.rules.State.the-variants.{Absent, Waiting, InForce}
-use Rattle.placing.specs.Board.{noWay, listed, wayMask, stateOf, isStanding, isWaiting, isInForce, Apart}
-use Rattle.placing.specs.Choice.{Choice, Choosable, WithBetter, SettledAt, Settled}
+use Rattle.placing.specs.Board.{noWay, listed, wayMask, stateOf, isStanding, isWaiting, isInForce}
+use Rattle.placing.specs.Choice.{Choosable, WithBetter, SettledAt}
 use Rattle.placing.specs.Search.{Places}
 use Rattle.placing.specs.Calls.{Passes}
-use Rattle.placing.specs.Laws.{IsBoard, Placed}
-use Rattle.ranks.specs.Numbers.{Distinct, Below64}
+use Rattle.placing.specs.Laws.{IsBoard}
+use Rattle.ranks.specs.Numbers.{Distinct}
 use Rattle.placing.proofs.After.{force-choice}
 use Rattle.placing.proofs.Placing.{placing-is-lawful}
 

@@ -1,7 +1,6 @@
 -- A search has at most one answer.
 use mathlib.Core.Path.{_≡_, refl, sym}
-use mathlib.Core.Bool.{Bool, true, false}
-use mathlib.Core.List.{List, [], _∷_}
+use mathlib.Core.List.{List}
 use Prim.Native.Nat.{ℕ}
 use native.Mathlib.Omega.{arith}
 use Rattle.std.specs.declared.option.Option.{Option}
@@ -11,7 +10,7 @@ use Rattle.placing.specs.declared.rules.Way.{Way}
 use Rattle.placing.specs.declared.rules.Rule.{Rule}
 use Rattle.placing.specs.declared.rules.State.{State}
 use Rattle.placing.specs.declared.rules.Mark.{Mark}
-use Rattle.placing.specs.Search.{Leads, Tries, Places}
+use Rattle.placing.specs.Search.{Leads, Tries}
 
 -- A value that is there is not a value that is not, and two that are there are equal if they are equal as answers.
 pub some-none : {X : Type 0} {x : X} → Some x ≡ None → ⊥

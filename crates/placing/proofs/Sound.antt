@@ -1,15 +1,15 @@
 -- What a search keeps from step to step, and so what a success leaves.
 use mathlib.Core.Path.{_≡_, refl, sym, ap, subst, _∙_}
-use mathlib.Core.Bool.{Bool, true, false}
+use mathlib.Core.Bool.{true, false}
 use mathlib.Core.List.{List, [], _∷_}
 use mathlib.Core.Logic.{_⊎_, inl, inr, ⊎-elim}
-use Prim.Native.Nat.{ℕ, zero, suc, _≤_, _<_}
+use Prim.Native.Nat.{ℕ, _<_}
 use native.Mathlib.Omega.{arith}
 use lib.Bits.{bitAnd, bitOr, and-comm}
-use lib.Dec.{ltb, eqb}
+use lib.Dec.{ltb}
 use lib.ListN.{length, getD, set, drop, length-set}
 use Rattle.std.specs.declared.option.Option.{Option}
-use Rattle.std.specs.declared.option.Option.the-variants.{Some, None}
+use Rattle.std.specs.declared.option.Option.the-variants.{Some}
 use Rattle.std.specs.shelf.Lists.{All}
 use Rattle.std.proofs.shelf.Tests.{both-ways, cases-eq, eqb-true, ltb-true}
 use Rattle.meaning.specs.Masks.{bit}
@@ -18,12 +18,12 @@ use Rattle.placing.specs.declared.rules.Way.{Way}
 use Rattle.placing.specs.declared.rules.Rule.{Rule}
 use Rattle.placing.specs.declared.rules.State.{State}
 use Rattle.placing.specs.declared.rules.Mark.{Mark}
-use Rattle.placing.specs.declared.rules.Mark.the-variants.{PutOut, Fresh, Tried}
-use Rattle.placing.specs.Board.{noWay, cellsOf, maskOf, listed, wayMask, gives, Apart, NoTwoGivers}
-use Rattle.placing.specs.Search.{isFresh, freshAt, piled, Leads, Tries}
+use Rattle.placing.specs.declared.rules.Mark.the-variants.{PutOut, Tried}
+use Rattle.placing.specs.Board.{noWay, cellsOf, listed, wayMask, gives, Apart, NoTwoGivers}
+use Rattle.placing.specs.Search.{freshAt, piled, Leads, Tries}
 use Rattle.placing.proofs.Single.{some-same}
 use Rattle.placing.proofs.Marks.{fresh-before, fresh-within, read-back, drop-front, drop-within}
-use Rattle.placing.proofs.Givers.{InForceAt, On, mask-cell, piled-all, piled-keeps, piled-giver, giver-found}
+use Rattle.placing.proofs.Givers.{InForceAt, On, piled-all, piled-keeps, piled-giver, giver-found}
 
 apart-sym : (a b : ℕ) → Apart a b → Apart b a
 apart-sym a b h = and-comm b a ∙ h

@@ -1,7 +1,7 @@
 -- The steps of a search over a pile that lies in an array and over ways by their index.
 use mathlib.Core.Path.{_≡_, refl, sym, ap, subst, _∙_}
 use mathlib.Core.Bool.{Bool, true, false, cond, _||_}
-use mathlib.Core.List.{List, [], _∷_}
+use mathlib.Core.List.{List, _∷_}
 use Prim.Native.Nat.{ℕ, suc, _+_, _-_, _≤_, _<_}
 use native.Mathlib.Numerals.{add-one}
 use native.Mathlib.Omega.{arith}
@@ -96,14 +96,6 @@ module _ (rules : List Rule) (rank : ℕ → ℕ) where
 
   pub pass-place : (k x : ℕ) (o : Bool) (s u t : List State) → k < 64 → x < 64 → rank x ≡ k → isWaiting (stateOf s x) ≡ true → Places rules s rank x o u → PassesFrom (k + 1) u t → PassesFrom k s t
   pass-place k x o s u t lt small e w p q = one-more k s t lt (Passes.place small e w p (further k u t q))
-
-  pub behind : (r from : ℕ) (s t : List State) → from ≡ rank r + 1 → PassesFrom from s t → PassesBehind rules rank r s t
-  behind r from s t e p =
-      let at : PassesFrom (suc (rank r)) s t = subst (λ (k : ℕ). PassesFrom k s t) (e ∙ add-one (rank r)) p in
-      subst (λ (n : ℕ). Passes rules rank (suc (rank r)) n s t) (count (rank r)) at
-    where
-      count : (k : ℕ) → 64 - suc k ≡ 63 - k
-      count k = omega arith
 
 -- The count of changed rules, one by one.
 pub changed-step : (r x : ℕ) (ss ts : List State) → x < length ss → x < length ts → changedFrom x r (drop x ss) (drop x ts) ≡ cond (eqb x r || sameState (getD ss x Absent) (getD ts x Absent)) 0 1 + changedFrom (x + 1) r (drop (x + 1) ss) (drop (x + 1) ts)

@@ -1,9 +1,9 @@
 -- A board on which one rule is written anew, out of force; and so adding and removing.
 use mathlib.Core.Path.{_≡_, refl, sym, ap, subst, _∙_}
 use mathlib.Core.Bool.{Bool, true, false}
-use mathlib.Core.List.{List, [], _∷_}
+use mathlib.Core.List.{List}
 use mathlib.Core.Logic.{_⊎_, inl, inr, ⊎-elim}
-use Prim.Native.Nat.{ℕ, zero, suc, _+_, _-_, _≤_, _<_}
+use Prim.Native.Nat.{ℕ, suc, _-_, _<_}
 use native.Mathlib.Omega.{arith}
 use lib.Bits.{and-zero-l, and-zero-r}
 use lib.Dec.{leb, ltb}
@@ -16,24 +16,23 @@ use Rattle.placing.specs.declared.rules.State.{State}
 use Rattle.placing.specs.declared.rules.State.the-variants.{Absent, Waiting, InForce}
 use Rattle.std.specs.declared.result.Result.{Result}
 use Rattle.std.specs.declared.result.Result.the-variants.{Ok, Err}
-use Rattle.std.specs.declared.option.Option.the-variants.{Some, None}
+use Rattle.std.specs.declared.option.Option.the-variants.{None}
 use Rattle.ranks.specs.declared.Ranks.{Ranks as RankTable}
 use Rattle.placing.specs.declared.board.Board.{Board}
 use Rattle.placing.specs.declared.board.Added.{Added}
 use Rattle.placing.specs.declared.board.Refused.{Refused}
-use Rattle.placing.specs.Board.{noWay, noRule, listed, wayMask, stateOf, isStanding, isWaiting, isInForce, givenBy, gives, listedBy, Apart, lawfulRule, LawfulRules}
+use Rattle.placing.specs.Board.{noWay, noRule, listed, stateOf, isStanding, isWaiting, isInForce, givenBy, gives, listedBy, Apart, lawfulRule, LawfulRules}
 use Rattle.placing.specs.Choice.{WithBetter, SettledAt, Settled}
-use Rattle.placing.specs.Search.{Places}
 use Rattle.ranks.specs.Numbers.{rankIn}
 use Rattle.placing.specs.Calls.{Passes, Adds, Removes}
 use Rattle.placing.specs.Answers.{isRule, addRefusal, removeRefusal, AddsTo, RemovesFrom}
-use Rattle.placing.specs.Laws.{IsBoard, SettlingLaws, CallsSettle}
+use Rattle.placing.specs.Laws.{IsBoard, CallsSettle}
 use Rattle.ranks.specs.Numbers.{Distinct, Below64}
 use Rattle.placing.proofs.Single.{some-none}
 use Rattle.ranks.proofs.RankNumbers.{not-shared}
 use Rattle.placing.proofs.After.{gives-nothing}
 use Rattle.placing.proofs.Placing.{placing-is-lawful}
-use Rattle.placing.proofs.Settling.{settled-same, settled-absent, past-absent, force-stands, stepped, step-settles, Passed, pass-settles, pass-board}
+use Rattle.placing.proofs.Settling.{settled-same, settled-absent, past-absent, force-stands, stepped, step-settles, pass-settles, pass-board}
 
 waiting-off : (s : State) → isWaiting s ≡ true → isInForce s ≡ false
 waiting-off Absent w = refl

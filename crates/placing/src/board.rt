@@ -1,8 +1,8 @@
 //! The board: the rules, and who is in force.
 
 ghost use mathlib.Core.Path.{_≡_};
-ghost use lib.ListN.{length, getD};
-ghost use Rattle.placing.specs.Board.{noRule, stateOf, LawfulRules, NoTwoGivers, SelectedListed};
+ghost use lib.ListN.{length};
+ghost use Rattle.placing.specs.Board.{LawfulRules, NoTwoGivers, SelectedListed};
 use crate::rules::RULES;
 use crate::rules::Rule;
 use crate::rules::State;

@@ -1,8 +1,8 @@
 -- Ranks of which no two rules share one are distinct, and the reverse.
-use mathlib.Core.Path.{_≡_, refl, sym, _∙_}
-use mathlib.Core.Bool.{Bool, true, false, not, _&&_}
+use mathlib.Core.Path.{_≡_}
+use mathlib.Core.Bool.{true, false, not, _&&_}
 use mathlib.Core.Logic.{⊎-elim}
-use Prim.Native.Nat.{ℕ, _<_}
+use Prim.Native.Nat.{ℕ}
 use lib.Dec.{ltb, eqb}
 use Rattle.std.proofs.shelf.Tests.{both-ways, cases-eq, cases-bool, and-parts, and-from, lt-ltb, ltb-true, eq-eqb, eqb-true, ne-eqb, not-from-false, not-true, eqb-false}
 use Rattle.ranks.specs.Numbers.{Distinct, shareRank}

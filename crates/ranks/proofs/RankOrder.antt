@@ -1,20 +1,20 @@
 -- The order of the rules is strict and total, so that counting the rules before a rule gives its rank.
 use mathlib.Core.Path.{_≡_, refl, sym, ap, subst, _∙_}
-use mathlib.Core.Bool.{Bool, true, false, cond}
+use mathlib.Core.Bool.{Bool, true, false}
 use mathlib.Core.List.{List, [], _∷_}
-use mathlib.Core.Logic.{_⊎_, inl, inr, ⊎-elim}
+use mathlib.Core.Logic.{_⊎_, ⊎-elim}
 use Prim.Native.Nat.{ℕ, zero, suc, _≤_, _<_}
 use native.Mathlib.Omega.{arith}
 use lib.Dec.{ltb}
 use lib.ListN.{length, getD}
 use Rattle.std.specs.declared.option.Option.{Option}
 use Rattle.std.specs.declared.option.Option.the-variants.{Some, None}
-use Rattle.std.proofs.shelf.Tests.{both-ways, cases-bool, cases-eq, cases-lt, cond-both, lt-ltb, le-ltb, ltb-true, ltb-false}
+use Rattle.std.proofs.shelf.Tests.{both-ways, cases-bool, cases-eq, cond-both, lt-ltb, le-ltb, ltb-true, ltb-false}
 use Rattle.meaning.specs.declared.Order.{Order}
 use Rattle.meaning.specs.declared.Order.the-variants.{Before, Level, After}
 use Rattle.meaning.specs.Masks.{bit}
 use Rattle.meaning.specs.Ranks.{Ranks, RankLaws, exchanged, notAfter}
-use Rattle.ranks.specs.RankOrder.{strengthAt, ifKnown, strengthOf, orNumber, precedes, ranksBefore, countBelow, rankNumber, Orders}
+use Rattle.ranks.specs.RankOrder.{strengthAt, ifKnown, strengthOf, orNumber, precedes, ranksBefore, rankNumber, Orders}
 use Rattle.ranks.specs.Numbers.{Distinct, Below64}
 use Rattle.ranks.proofs.Counting.{count-all, count-less}
 

@@ -1,11 +1,10 @@
 -- The quotient is no larger than the dividend, so it fits; and the divisor is not 0.
-use mathlib.Core.Path.{_≡_, _∙_, sym, subst}
+use mathlib.Core.Path.{_≡_, _∙_}
 use native.Mathlib.Omega.{arith}
 use Prim.Native.Nat.{_<_}
-use lib.IntN.{ℤ}
 use lib.Signed.{quotZ}
 use mir.Syntax.{w128}
-use mir.Val.{SFits, toZ, ofZ}
+use mir.Val.{SFits, ofZ}
 use mir.Facts.{toZ-ofZ, sfits-widen}
 use Rattle.calculators.proofs.Integers.{widened, quotient-small, small-fits, nonzero-bits}
 use Rattle.calculators.proofs.quantities.cut.Needs as need

@@ -1,5 +1,5 @@
 -- Two numbers of 64 bits have a product that fits 128, so it is computed whole.
-use mathlib.Core.Path.{_≡_, ap, _∙_, subst, sym}
+use mathlib.Core.Path.{_≡_, subst, sym}
 use Prim.Native.Nat.{_≤_, _^_}
 use lib.IntN.{ℤ, natAbs, _*ℤ_}
 use mir.Syntax.{w128}

@@ -1,8 +1,6 @@
-use mathlib.Core.Path.{_≡_, sym, ap, _∙_}
-use Prim.Native.Nat.{_<_, _≤_}
+use mathlib.Core.Path.{sym, ap, _∙_}
 use native.Mathlib.Omega.{arith}
 use lib.Dec.{leb}
-use lib.ListN.{length}
 use Rattle.std.proofs.shelf.Tests.{le-leb, and-from, and-right}
 use Rattle.meaning.specs.Lists.{every}
 use Rattle.meaning.proofs.Lists.{every-on, every-off, every-end}

@@ -1,4 +1,3 @@
-use mathlib.Core.Path.{sym}
 use Rattle.ranks.specs.Numbers.{rankIn}
 use Rattle.placing.proofs.Steps.{adds-waits, adds-comes}
 use Rattle.placing.proofs.passes.with_rule.Needs as need

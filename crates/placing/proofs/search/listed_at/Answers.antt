@@ -1,6 +1,6 @@
 -- The first ways read as all of them do, and behind them there is none.
 use mathlib.Core.Path.{_∙_, sym}
-use Prim.Native.Nat.{_<_, _≤_}
+use Prim.Native.Nat.{_≤_}
 use native.Mathlib.Omega.{arith}
 use lib.ListN.{length, take, length-take}
 use lib.Seq.{getD-take}

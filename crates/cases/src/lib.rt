@@ -2,3 +2,5 @@
 
 #[cfg(test)]
 mod placing_cases;
+#[cfg(test)]
+mod rank_cases;

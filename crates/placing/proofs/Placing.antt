@@ -1,6 +1,6 @@
 -- The laws of placing, put together.
 use mathlib.Core.Path.{_≡_, refl, sym, ap, _∙_}
-use mathlib.Core.Bool.{Bool, true, false}
+use mathlib.Core.Bool.{true, false}
 use mathlib.Core.List.{List, [], _∷_}
 use mathlib.Core.Logic.{_⊎_, inl, inr, ⊎-elim}
 use Prim.Native.Nat.{ℕ, _≤_, _<_}
@@ -14,10 +14,10 @@ use Rattle.placing.specs.declared.rules.State.{State}
 use Rattle.placing.specs.declared.rules.Mark.the-variants.{PutOut, Fresh, Tried}
 use Rattle.placing.specs.Board.{wayMask, gives, stateOf, isInForce, isWaiting}
 use Rattle.placing.specs.Choice.{Choosable, WithBetter}
-use Rattle.placing.specs.Search.{applied, Places}
+use Rattle.placing.specs.Search.{Places}
 use Rattle.placing.specs.Laws.{IsBoard, Placed, PlacingIsLawful}
 use Rattle.ranks.specs.Numbers.{Distinct}
-use Rattle.placing.proofs.Single.{some-none, some-same, leads-single}
+use Rattle.placing.proofs.Single.{places-single}
 use Rattle.placing.proofs.Complete.{leads-complete}
 use Rattle.placing.proofs.Sound.{Kept, leads-kept}
 use Rattle.placing.proofs.After.{in-force-small, listed-cells, force-choice, success}
@@ -73,15 +73,9 @@ module _ (rules : List Rule) (states : List State) (rank : ℕ → ℕ) (r : ℕ
   unchanged : (after : List State) → Places rules states rank r false after → after ≡ states
   unchanged after (Places.refused d) = refl
 
-  single : (a c : Bool) (s t : List State) → Places rules states rank r a s → Places rules states rank r c t → (a ≡ c) × (s ≡ t)
-  single a c s t (Places.placed p) (Places.placed q) = let e = leads-single rules states rank r p q in (refl, ap (applied states) (some-same e))
-  single a c s t (Places.placed p) (Places.refused q) = absurd (some-none (leads-single rules states rank r p q))
-  single a c s t (Places.refused p) (Places.placed q) = absurd (some-none (leads-single rules states rank r q p))
-  single a c s t (Places.refused p) (Places.refused q) = (refl, refl)
-
 pub placing-is-lawful : PlacingIsLawful
 placing-is-lawful rules states rank r b distinct small waits = record {
-  single = single rules states rank r b distinct small waits;
+  single = λ a c s t p q. places-single rules states rank r p q;
   sound = sound rules states rank r b distinct small waits;
   succeeds = succeeds rules states rank r b distinct small waits;
   fails = fails rules states rank r b distinct small waits;

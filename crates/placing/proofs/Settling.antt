@@ -18,6 +18,7 @@ use Rattle.placing.specs.Search.{Places}
 use Rattle.placing.specs.Calls.{Passes}
 use Rattle.placing.specs.Laws.{IsBoard}
 use Rattle.ranks.specs.Numbers.{Distinct}
+use Rattle.placing.proofs.Single.{not-both}
 use Rattle.placing.proofs.After.{force-choice}
 use Rattle.placing.proofs.Placing.{placing-is-lawful}
 
@@ -31,11 +32,6 @@ choice-for rules rules′ InSet InSet′ smaller same (pick, choice) =
         no-shared = λ x y s t ne. let apart = choice .no-shared x y (smaller x s) (smaller y t) ne in rw (mask x s, mask y t) at apart;
       },
     )
-
-force-not-waiting : (s : State) → isWaiting s ≡ true → isInForce s ≡ true → ⊥
-force-not-waiting Absent w f = both-ways _ refl w
-force-not-waiting Waiting w f = both-ways _ refl f
-force-not-waiting (InForce i) w f = both-ways _ refl w
 
 -- A rule stands if it waits or is in force, and only then.
 waiting-stands : (s : State) → isStanding s ≡ false → isWaiting s ≡ true → ⊥
@@ -56,7 +52,7 @@ neither-stands (InForce i) w f = absurd (both-ways _ f refl)
 pub waiting-from : (s t : State) → isStanding s ≡ isStanding t → isInForce s ≡ isInForce t → isWaiting t ≡ true → isWaiting s ≡ true
 waiting-from Absent t e f w = absurd (waiting-stands t (sym e) w)
 waiting-from Waiting t e f w = refl
-waiting-from (InForce i) t e f w = absurd (force-not-waiting t w (sym f))
+waiting-from (InForce i) t e f w = absurd (not-both t w (sym f))
 
 -- Whether a rule is settled hangs on itself, on who is in force before it, and on the ways of these.
 module _ (rank : ℕ → ℕ) (rules rules′ : List Rule) (s t : List State) (x : ℕ) (standing : isStanding (stateOf s x) ≡ isStanding (stateOf t x)) (itself : isInForce (stateOf s x) ≡ isInForce (stateOf t x)) (force : (z : ℕ) → rank z < rank x → isInForce (stateOf s z) ≡ isInForce (stateOf t z)) (ways : (z : ℕ) → WithBetter s rank x z → listed rules z ≡ listed rules′ z) where
@@ -83,7 +79,7 @@ settled-absent rules s rank x n = record {
 
 settled-in-force : (rules : List Rule) (s : List State) (rank : ℕ → ℕ) (x : ℕ) → IsBoard rules s → isInForce (stateOf s x) ≡ true → SettledAt rules s rank x
 settled-in-force rules s rank x b f = record {
-  none = λ w _. force-not-waiting (stateOf s x) w f;
+  none = λ w _. not-both (stateOf s x) w f;
   some = λ _. force-choice rules s b (WithBetter s rank x) (λ z. ⊎-elim (λ e. ap (λ (y : ℕ). isInForce (stateOf s y)) e ∙ f) (λ h. h .0));
 }
 
@@ -114,7 +110,7 @@ module _ (rank : ℕ → ℕ) (distinct : Distinct rank) where
         board = b;
         force = λ z h. refl;
         standing = λ z. refl;
-        settled = record { none = λ _ c. laws .fails u p c; some = λ f. absurd (force-not-waiting (stateOf s x) w f) };
+        settled = record { none = λ _ c. laws .fails u p c; some = λ f. absurd (not-both (stateOf s x) w f) };
       })
 
   -- A pass leaves a board.

@@ -46,7 +46,15 @@ pub record PlacingLaws (rules : List Rule) (states : List State) (rank : ℕ →
 abbrev pub PlacingIsLawful : Type 0
 PlacingIsLawful = (rules : List Rule) (states : List State) (rank : ℕ → ℕ) (r : ℕ) → IsBoard rules states → Distinct rank → r < 64 → isWaiting (stateOf states r) ≡ true → PlacingLaws rules states rank r
 
--- Adding any rule to a settled board, and removing any rule from one, leaves a settled board; so does the pass down.
+-- What a call does is one thing: from one start there is at most one answer, and one board after it.
+pub record SingleCalls (rules : List Rule) (states : List State) (rank : ℕ → ℕ) (r : ℕ) : Type 0 where
+  pub adds : (rule : Rule) (a b : Bool) (s t : List State) → Adds rules states rank r rule a s → Adds rules states rank r rule b t → (a ≡ b) × (s ≡ t)
+  pub removes : (s t : List State) → Removes rules states rank r s → Removes rules states rank r t → s ≡ t
+
+abbrev pub CallsAreSingle : Type 0
+CallsAreSingle = (rules : List Rule) (states : List State) (rank : ℕ → ℕ) (r : ℕ) → Distinct rank → SingleCalls rules states rank r
+
+-- Adding any rule to a settled board, and removing any rule from one, leaves a settled board.
 pub record SettlingLaws (rules : List Rule) (states : List State) (rank : ℕ → ℕ) (r : ℕ) : Type 0 where
   pub adding : (rule : Rule) (in-force : Bool) (after : List State) → lawfulRule rule ≡ true → isStanding (stateOf states r) ≡ false → Adds rules states rank r rule in-force after → IsBoard (set rules r rule) after × Settled (set rules r rule) after rank
   pub removing : (after : List State) → Removes rules states rank r after → IsBoard rules after × Settled rules after rank

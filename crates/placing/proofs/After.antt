@@ -104,11 +104,21 @@ module _ (rules : List Rule) (states : List State) (rank : ℕ → ℕ) (r : ℕ
   abbrev after : List State
   after = applied states found
 
-  -- A rule after the placing is what its mark makes of it.
+  -- A rule after the placing is what its mark makes of it; past the board there is none.
+  state-within : (x : ℕ) → x < 64 → stateOf after x ≡ marked (stateOf states x) (getD found x PutOut)
+  state-within x lt =
+      applied-at states found x (b .states-counted ∙ sym (k .counted)) ∙ ap (marked (stateOf states x)) (getD-default found x Fresh PutOut (omega (arith, k .counted)))
+
+  state-beyond : (x : ℕ) → 64 ≤ x → stateOf after x ≡ Absent
+  state-beyond x le = let counted : length after ≡ 64 = applied-length states found ∙ b .states-counted in getD-past after x Absent (omega arith)
+
+  at-mark : (x : ℕ) (P : State → Type 0) (m : Mark) → x < 64 → getD found x PutOut ≡ m → P (marked (stateOf states x) m) → P (stateOf after x)
+  at-mark x P m lt e p = subst P (sym (state-within x lt ∙ ap (marked (stateOf states x)) e)) p
+
   cases-after : (x : ℕ) (P : State → Type 0) → (64 ≤ x → P Absent) → (x < 64 → getD found x PutOut ≡ PutOut → P Waiting) → (freshAt found x ≡ true → P (stateOf states x)) → ((i : ℕ) → getD found x PutOut ≡ Tried i → P (InForce i)) → P (stateOf after x)
   cases-after x P past out fresh tried =
-      ⊎-elim (λ lt. let e : stateOf after x ≡ marked (stateOf states x) (getD found x PutOut) = applied-at states found x (b .states-counted ∙ sym (k .counted)) ∙ ap (marked (stateOf states x)) (getD-default found x Fresh PutOut (omega (arith, k .counted))) in by-mark (getD found x PutOut) (λ m. subst P (sym (e ∙ ap (marked (stateOf states x)) m)) (out lt m)) (λ m. subst P (sym (e ∙ ap (marked (stateOf states x)) m)) (fresh (ap isFresh m))) (λ i m. subst P (sym (e ∙ ap (marked (stateOf states x)) m)) (tried i m)))
-      (λ le. let counted : length after ≡ 64 = applied-length states found ∙ b .states-counted in subst P (sym (getD-past after x Absent (omega arith))) (past le)) (cases-lt x 64)
+      ⊎-elim (λ lt. by-mark (getD found x PutOut) (λ m. at-mark x P PutOut lt m (out lt m)) (λ m. at-mark x P Fresh lt m (fresh (ap isFresh m))) (λ i m. at-mark x P (Tried i) lt m (tried i m)))
+      (λ le. subst P (sym (state-beyond x le)) (past le)) (cases-lt x 64)
 
   absent-past : (x : ℕ) → 64 ≤ x → stateOf states x ≡ Absent
   absent-past x le = getD-past states x Absent (omega (arith, b .states-counted))

@@ -128,6 +128,12 @@ module _ (rank : ℕ → ℕ) (distinct : Distinct rank) where
       before : rank z < rank x → SettledAt rules u rank z
       before k = settled-same rank rules rules s u z (step .standing z) (step .force z k) (λ w j. step .force w (omega arith)) (λ _ _. refl) (settled z k)
 
+  -- If no rule of rank k waits and every rule before it was settled, every rule up to that rank is.
+  skip-settles : (rules : List Rule) (s : List State) (k : ℕ) → IsBoard rules s → ((x : ℕ) → x < 64 → rank x ≡ k → isWaiting (stateOf s x) ≡ false) → ((x : ℕ) → rank x < k → SettledAt rules s rank x) → (x : ℕ) → rank x < suc k → SettledAt rules s rank x
+  skip-settles rules s k b none settled x h =
+      ⊎-elim (λ small. ⊎-elim (λ e. ⊎-elim (settled-in-force rules s rank x b) (λ f. settled-absent rules s rank x (neither-stands (stateOf s x) (none x small e) f)) (cases-bool (isInForce (stateOf s x)))) (λ ne. settled x (omega arith)) (cases-eq (rank x) k))
+      (λ le. settled-absent rules s rank x (past-absent rules s b x le)) (cases-lt x 64)
+
   -- What the pass down leaves.
   pub record Passed (rules : List Rule) (s t : List State) (bound : ℕ) : Type 0 where
     pub board : IsBoard rules t
@@ -137,7 +143,7 @@ module _ (rank : ℕ → ℕ) (distinct : Distinct rank) where
   pub pass-settles : {rules : List Rule} {k n : ℕ} {s t : List State} → Passes rules rank k n s t → IsBoard rules s → ((x : ℕ) → rank x < k → SettledAt rules s rank x) → Passed rules s t (k + n)
   pass-settles {rules} {k} {s = s} Passes.end b settled = record { board = b; standing = λ x. refl; settled = λ x h. settled x (omega arith) }
   pass-settles {rules} {k} {s = s} (Passes.skip {n = n} none p) b settled =
-      let here : (x : ℕ) → rank x < suc k → SettledAt rules s rank x = λ x h. ⊎-elim (λ small. ⊎-elim (λ e. ⊎-elim (settled-in-force rules s rank x b) (λ f. settled-absent rules s rank x (neither-stands (stateOf s x) (none x small e) f)) (cases-bool (isInForce (stateOf s x)))) (λ ne. settled x (omega arith)) (cases-eq (rank x) k)) (λ le. settled-absent rules s rank x (past-absent rules s b x le)) (cases-lt x 64) in
+      let here = skip-settles rules s k b none settled in
       let rest = pass-settles p b here in
       record { board = rest .board; standing = rest .standing; settled = λ x h. rest .settled x (omega arith) }
   pass-settles {rules} {k} {s = s} (Passes.place {n = n} {x = x} {o = o} {u = u} lt e w p q) b settled =

@@ -94,8 +94,16 @@ module _ (rules : List Rule) (states : List State) (rank : ℕ → ℕ) (r : ℕ
         piled-from = k .piled-from .1;
       }
 
-  -- Trying a listed way none of whose outputs is taken.
+  -- On a board whose ways' masks are those of their outputs.
   module _ (one : NoTwoGivers rules states) (small : (x : ℕ) → InForceAt rules states x → x < 64) (cells : (x i c : ℕ) → i < length (listed rules x) → bit (wayMask rules x i) c ≡ true → On c (cellsOf (getD (listed rules x) i noWay))) where
+    -- A rule in force that is apart from the taken cells is apart from the way too, or gives one of its outputs and is piled.
+    still-apart : (x i : ℕ) (pile : List ℕ) (taken y : ℕ) → i < length (listed rules x) → InForceAt rules states y → Apart taken (gives rules states y) → Apart (bitOr taken (wayMask rules x i)) (gives rules states y) ⊎ On y (piled rules states (cellsOf (getD (listed rules x) i noWay)) pile)
+    still-apart x i pile taken y on-list g a =
+        let mask = wayMask rules x i in
+        let outs = cellsOf (getD (listed rules x) i noWay) in
+        ⊎-elim (λ e. inl (apart-or taken mask (gives rules states y) a e)) (λ shared. let c = common-bit mask (gives rules states y) shared in inr (piled-giver rules states outs pile (c .0) y (cells x i (c .0) on-list (c .1)) (giver-found rules states one (c .0) y (small y g) (c .2)))) (cases-eq (bitAnd mask (gives rules states y)) 0)
+
+    -- Trying a listed way none of whose outputs is taken.
     kept-try : {x i : ℕ} {pile : List ℕ} {marks : List Mark} {taken : ℕ} → freshAt marks x ≡ true → i < length (listed rules x) → Apart taken (wayMask rules x i) → Kept (x ∷ pile) marks taken → Kept (piled rules states (cellsOf (getD (listed rules x) i noWay)) pile) (set marks x (Tried i)) (bitOr taken (wayMask rules x i))
     kept-try {x} {i} {pile} {marks} {taken} fresh on-list free k =
         let mask = wayMask rules x i in
@@ -103,14 +111,15 @@ module _ (rules : List Rule) (states : List State) (rank : ℕ → ℕ) (r : ℕ
         let within = fresh-within marks x fresh in
         let now-tried : (y j : ℕ) → TriedAt (set marks x (Tried i)) y j → ((y ≡ x) × (i ≡ j)) ⊎ ((y ≡ x → ⊥) × TriedAt marks y j) = λ y j t. ⊎-elim (λ h. inl (h .0, tried-same (h .1))) inr (read-back marks x y (Tried i) (Tried j) within t) in
         let old-new : (y j : ℕ) → TriedAt marks y j → Apart (wayMask rules y j) mask = λ y j t. k .tried-taken y j mask t free in
+        let new-old : (y j : ℕ) → TriedAt marks y j → Apart mask (wayMask rules y j) = λ y j t. apart-sym (wayMask rules y j) mask (old-new y j t) in
         let off : (y : ℕ) → (y ≡ x → ⊥) → On y (x ∷ pile) → On y (piled rules states outs pile) = λ y ne. ⊎-elim (λ e. absurd (ne e)) (piled-keeps rules states outs pile y) in
         record {
           counted = simp length-set (k .counted);
           tried-listed = λ y j t. ⊎-elim (λ h. carry (λ a b. b < length (listed rules a)) h on-list) (λ h. k .tried-listed y j (h .1)) (now-tried y j t);
           tried-taken = λ y j m t a. ⊎-elim (λ h. carry (λ a b. Apart (wayMask rules a b) m) h (apart-right taken mask m a)) (λ h. k .tried-taken y j m (h .1) (apart-left taken mask m a)) (now-tried y j t);
-          tried-apart = λ y z j l s t ne. ⊎-elim (λ h. ⊎-elim (λ g. absurd (ne (h .0 ∙ sym (g .0)))) (λ g. carry (λ a b. Apart (wayMask rules a b) (wayMask rules z l)) h (apart-sym (wayMask rules z l) mask (old-new z l (g .1)))) (now-tried z l t)) (λ h. ⊎-elim (λ g. carry (λ a b. Apart (wayMask rules y j) (wayMask rules a b)) g (old-new y j (h .1))) (λ g. k .tried-apart y z j l (h .1) (g .1) ne) (now-tried z l t)) (now-tried y j s);
+          tried-apart = λ y z j l s t ne. ⊎-elim (λ h. ⊎-elim (λ g. absurd (ne (h .0 ∙ sym (g .0)))) (λ g. carry (λ a b. Apart (wayMask rules a b) (wayMask rules z l)) h (new-old z l (g .1))) (now-tried z l t)) (λ h. ⊎-elim (λ g. carry (λ a b. Apart (wayMask rules y j) (wayMask rules a b)) g (old-new y j (h .1))) (λ g. k .tried-apart y z j l (h .1) (g .1) ne) (now-tried z l t)) (now-tried y j s);
           tried-from = λ y j t. ⊎-elim (λ h. subst Piled (sym (h .0)) (k .piled-from .0)) (λ h. k .tried-from y j (h .1)) (now-tried y j t);
-          fresh-apart = λ y f g. let b = fresh-before marks x y (Tried i) refl f in ⊎-elim (λ a. ⊎-elim (λ e. inl (apart-or taken mask (gives rules states y) a e)) (λ shared. inr (let c = common-bit mask (gives rules states y) shared in piled-giver rules states outs pile (c .0) y (cells x i (c .0) on-list (c .1)) (giver-found rules states one (c .0) y (small y g) (c .2)))) (cases-eq (bitAnd mask (gives rules states y)) 0)) (λ on. inr (off y (b .1) on)) (k .fresh-apart y (b .0) g);
+          fresh-apart = λ y f g. let b = fresh-before marks x y (Tried i) refl f in ⊎-elim (still-apart x i pile taken y on-list g) (λ on. inr (off y (b .1) on)) (k .fresh-apart y (b .0) g);
           placed-on = λ f. let b = fresh-before marks x r (Tried i) refl f in off r (b .1) (k .placed-on (b .0));
           put-out-after = λ y h o. ⊎-elim (λ e. absurd (tried-is-not-out i (e .1))) (λ e. k .put-out-after y h (e .1)) (read-back marks x y (Tried i) PutOut within o);
           piled-from = piled-all rules states Piled (λ y h. inr h) outs pile (k .piled-from .1);

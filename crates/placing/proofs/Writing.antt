@@ -1,6 +1,6 @@
 -- A board on which one rule is written anew, out of force; and so adding and removing.
 use mathlib.Core.Path.{_≡_, refl, sym, ap, subst, _∙_}
-use mathlib.Core.Bool.{Bool, true, false}
+use mathlib.Core.Bool.{Bool, true, false, cond}
 use mathlib.Core.List.{List}
 use mathlib.Core.Logic.{_⊎_, inl, inr, ⊎-elim}
 use Prim.Native.Nat.{ℕ, suc, _-_, _<_}
@@ -9,19 +9,21 @@ use lib.Bits.{and-zero-l, and-zero-r}
 use lib.Dec.{leb, ltb}
 use lib.ListN.{length, getD, set, take, length-set}
 use lib.Seq.{getD-set-same, getD-set-other}
-use Rattle.std.proofs.shelf.Tests.{both-ways, cases-lt, cases-eq, cases-bool, cond-true, cond-false, leb-false, and-parts}
+use Rattle.std.proofs.shelf.Tests.{both-ways, cases-lt, cases-eq, cases-bool, leb-false, and-parts}
 use Rattle.placing.specs.declared.rules.Way.{Way}
 use Rattle.placing.specs.declared.rules.Rule.{Rule}
 use Rattle.placing.specs.declared.rules.State.{State}
 use Rattle.placing.specs.declared.rules.State.the-variants.{Absent, Waiting, InForce}
 use Rattle.std.specs.declared.result.Result.{Result}
 use Rattle.std.specs.declared.result.Result.the-variants.{Ok, Err}
-use Rattle.std.specs.declared.option.Option.the-variants.{None}
+use Rattle.std.specs.declared.option.Option.{Option}
+use Rattle.std.specs.declared.option.Option.the-variants.{Some, None}
 use Rattle.ranks.specs.declared.Ranks.{Ranks as RankTable}
 use Rattle.placing.specs.declared.board.Board.{Board}
 use Rattle.placing.specs.declared.board.Added.{Added}
 use Rattle.placing.specs.declared.board.Refused.{Refused}
-use Rattle.placing.specs.Board.{noWay, noRule, listed, stateOf, isStanding, isWaiting, isInForce, givenBy, gives, listedBy, Apart, lawfulRule, LawfulRules}
+use Rattle.placing.specs.declared.board.Refused.the-variants.{Number, Stands, Ways}
+use Rattle.placing.specs.Board.{noWay, noRule, listed, stateOf, isStanding, isWaiting, isInForce, givenBy, gives, listedBy, Apart, NoTwoGivers, lawfulRule, LawfulRules}
 use Rattle.placing.specs.Choice.{WithBetter, SettledAt, Settled}
 use Rattle.ranks.specs.Numbers.{rankIn}
 use Rattle.placing.specs.Calls.{Passes, Adds, Removes}
@@ -71,12 +73,19 @@ module _ (rules rules′ : List Rule) (states : List State) (r : ℕ) (s : State
   gives-written : gives rules′ written r ≡ 0
   gives-written = ap (givenBy rules′ r) at-written ∙ gives-nothing rules′ r s off
 
+  -- The written rule gives nothing, and the others give what they gave.
+  written-apart : NoTwoGivers rules′ written
+  written-apart x y ne =
+      ⊎-elim (λ e. subst (λ (z : ℕ). Apart (gives rules′ written z) (gives rules′ written y)) (sym e) (rw gives-written (and-zero-l (gives rules′ written y))))
+      (λ nx. ⊎-elim (λ e. subst (λ (z : ℕ). Apart (gives rules′ written x) (gives rules′ written z)) (sym e) (rw gives-written (and-zero-r (gives rules′ written x))))
+      (λ ny. rw (gives-other x nx, gives-other y ny) (b .no-two-givers x y ne)) (cases-eq y r)) (cases-eq x r)
+
   pub written-board : IsBoard rules′ written
   written-board = record {
     rules-counted = counted;
     states-counted = simp length-set (b .states-counted);
     lawful = lawful;
-    no-two-givers = λ x y ne. ⊎-elim (λ e. subst (λ (z : ℕ). Apart (gives rules′ written z) (gives rules′ written y)) (sym e) (rw gives-written (and-zero-l (gives rules′ written y)))) (λ nx. ⊎-elim (λ e. subst (λ (z : ℕ). Apart (gives rules′ written x) (gives rules′ written z)) (sym e) (rw gives-written (and-zero-r (gives rules′ written x)))) (λ ny. rw (gives-other x nx, gives-other y ny) (b .no-two-givers x y ne)) (cases-eq y r)) (cases-eq x r);
+    no-two-givers = written-apart;
     selected-listed = λ x. ⊎-elim (λ e. subst (λ (z : ℕ). listedBy rules′ z (stateOf written z) ≡ true) (sym e) (rw at-written (listed-by-off rules′ r s off))) (λ ne. rw (at-other x ne) (listed-by-same rules rules′ x (stateOf states x) (same x ne) (b .selected-listed x))) (cases-eq x r);
   }
 
@@ -178,16 +187,25 @@ module _ (rules : List Rule) (states : List State) (rank : ℕ → ℕ) (r : ℕ
       by (Removes.gave {t = t} f p) =
           whole rules (set states r Absent) t board (λ x h. ⊎-elim (itself x) (λ ne. ⊎-elim (λ lt. others x ne (λ k. absurd (ne (distinct x r lt small (omega arith))))) (λ le. settled-absent rules (set states r Absent) rank x (past-absent rules (set states r Absent) board x le)) (cases-lt x 64)) (cases-eq x r)) p
 
+-- Where there is no refusal, a check did not hit and the checks behind it gave none.
+not-refused : (hit : Bool) (why : Refused) (rest : Option Refused) → cond hit (Some why) rest ≡ None → (hit ≡ false) × (rest ≡ None)
+not-refused true why rest e = absurd (some-none e)
+not-refused false why rest e = (refl, e)
+
+let-through : (passed : Bool) (why : Refused) → cond passed None (Some why) ≡ None → passed ≡ true
+let-through true why e = refl
+let-through false why e = absurd (some-none e)
+
 -- What an accepted call passed.
 accepted : (states : List State) (r : ℕ) (rule : Rule) → addRefusal states r rule ≡ None → (r < 64) × (isStanding (stateOf states r) ≡ false) × (lawfulRule rule ≡ true)
 accepted states r rule e =
-    ⊎-elim (λ over. absurd (some-none (sym (cond-true (leb 64 r) _ _ over) ∙ e))) (λ under. let second = sym (cond-false (leb 64 r) _ _ under) ∙ e in ⊎-elim (λ stands. absurd (some-none (sym (cond-true (isStanding (stateOf states r)) _ _ stands) ∙ second))) (λ gone. let third = sym (cond-false (isStanding (stateOf states r)) _ _ gone) ∙ second in ⊎-elim (λ is. (lt-of r under, gone, and-parts (ltb 0 (rule .count)) (lawfulRule rule) is .1)) (λ no. absurd (some-none (sym (cond-false (isRule rule) _ _ no) ∙ third))) (cases-bool (isRule rule))) (cases-bool (isStanding (stateOf states r)))) (cases-bool (leb 64 r))
-  where
-    lt-of : (r : ℕ) → leb 64 r ≡ false → r < 64
-    lt-of r h = leb-false 64 r h
+    let number = not-refused (leb 64 r) Number _ e in
+    let stands = not-refused (isStanding (stateOf states r)) Stands _ (number .1) in
+    let ways = let-through (isRule rule) Ways (stands .1) in
+    (leb-false 64 r (number .0), stands .0, and-parts (ltb 0 (rule .count)) (lawfulRule rule) ways .1)
 
 removed-small : (states : List State) (r : ℕ) → removeRefusal states r ≡ None → r < 64
-removed-small states r e = ⊎-elim (λ over. absurd (some-none (sym (cond-true (leb 64 r) _ _ over) ∙ e))) (λ under. leb-false 64 r under) (cases-bool (leb 64 r))
+removed-small states r e = leb-false 64 r (not-refused (leb 64 r) Number _ e .0)
 
 pub calls-settle : CallsSettle
 calls-settle rules states rank r b distinct below small settled = record {

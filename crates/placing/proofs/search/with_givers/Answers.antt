@@ -13,7 +13,13 @@ use Rattle.placing.proofs.search.with_givers.Needs.{in-Some, in-None}
 abbrev listOf : Pile → List ℕ
 listOf p = drop (p .top) (p .at)
 
-again : (c : need.Joined-giver) → listOf (c .match-giver .higher) ≡ giver (c .args .rules .now) (c .args .states .now) (getD (c .args .cells .now) (c .loop-cell .cell-index) 0) ++ listOf (c .loop-cell .higher) → c .loop-cell .higher .top ≤ c .match-giver .higher .top + 1 → (piled (c .args .rules .now) (c .args .states .now) (drop (c .loop-cell .cell-index + 1) (c .args .cells .now)) (listOf (c .match-giver .higher)) ≡ piled (c .args .rules .now) (c .args .states .now) (c .args .cells .now) (listOf (c .args .pile))) × (c .args .pile .top ≤ c .match-giver .higher .top + (c .loop-cell .cell-index + 1)) × (c .loop-cell .cell-index + 1 ≤ length (c .args .cells .now))
+-- What the next turn asks: the rest of the cells onto the new pile gives the whole, and there is room.
+abbrev Again : need.Joined-giver → Type 0
+Again c =
+    (piled (c .args .rules .now) (c .args .states .now) (drop (c .loop-cell .cell-index + 1) (c .args .cells .now)) (listOf (c .match-giver .higher)) ≡ piled (c .args .rules .now) (c .args .states .now) (c .args .cells .now) (listOf (c .args .pile)))
+    × (c .args .pile .top ≤ c .match-giver .higher .top + (c .loop-cell .cell-index + 1)) × (c .loop-cell .cell-index + 1 ≤ length (c .args .cells .now))
+
+again : (c : need.Joined-giver) → listOf (c .match-giver .higher) ≡ giver (c .args .rules .now) (c .args .states .now) (getD (c .args .cells .now) (c .loop-cell .cell-index) 0) ++ listOf (c .loop-cell .higher) → c .loop-cell .higher .top ≤ c .match-giver .higher .top + 1 → Again c
 again c piles tops =
     (piled-again (c .args .rules .now) (c .args .states .now) (c .args .cells .now) (listOf (c .loop-cell .higher)) (listOf (c .match-giver .higher)) _ (c .loop-cell .cell-index) (c .loop-cell-test .taken) piles (c .loop-cell .inv .0), omega (arith, c .loop-cell .inv .1), omega (arith, c .loop-cell-test .taken))
 

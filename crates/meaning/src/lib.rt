@@ -56,7 +56,7 @@ pub trait Calculator {
     fn takes(&self, figure: Self::Figure) -> bool
         ensures { λ r. ⌜ r ≡ meaning (now (self .entry)) .takes figure ⌝ };
 
-    /// The number of kinds, which is `KINDS`.
+    /// The number of kinds. An implementation answers its `KINDS`; what is promised is the meaning's number.
     fn kind_count(&self) -> u8
         ensures { λ r. ⌜ r ≡ meaning (now (self .entry)) .kinds ⌝ };
 

@@ -14,6 +14,8 @@ import sys
 
 # Names that would fall together with another, and one that is a reserved word now.
 OWN = {
+    "bit-and": "bit_of_and",
+    "bit-or": "bit_of_or",
     "asked-at": "asked_at_lem",
     "flow-at": "flow_at_lem",
     "flow-of": "flow_of_lem",

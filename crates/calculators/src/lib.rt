@@ -1,5 +1,7 @@
 //! The calculators of the mill: quantities and cards.
 
+#![tactic(auto)]
+
 pub mod cards;
 mod forms;
 pub mod laws;

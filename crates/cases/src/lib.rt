@@ -1,5 +1,7 @@
 //! Worked cases, run on the compiled code.
 
+#![tactic(auto)]
+
 #[cfg(test)]
 mod figures_cases;
 #[cfg(test)]

@@ -3,7 +3,7 @@ use Rattle.std.proofs.Common.{◌≡◌, ℕ, zero, suc, ◌+◌, ◌^◌, ◌<�
 use lib.Bits.{bit_or}
 use Rattle.std.proofs.lemmas.Bool.{both_ways, cases_Bool, cases_eq, cond-true, lt-ltb, or_left, or_right}
 use Rattle.meaning.specs.Masks.{bit}
-use Rattle.meaning.proofs.MaskBits.{bit_or, bit_of_power}
+use Rattle.meaning.proofs.MaskBits.{bit_of_or, bit_of_power}
 use Rattle.planning.specs.declared.flows.Flow.{Flow}
 use Rattle.planning.specs.Flows.{flow_at, inputs_by, outputs_by, Gives, Reads}
 use Rattle.figures.specs.declared.ways.SelectedWay.{SelectedWay}
@@ -65,20 +65,20 @@ in_cell_bit c lt = ap (λ (m : ℕ). bit m c) (cond-true _ _ _ (lt-ltb c 64 lt))
 
 -- One cell more is given in the direction of an output, and what was given before stays so; the same of what is read.
 with_given : (b : Bool) (c : ℕ) (flow : Flow) → b ≡ true → c < 64 → bit (with_cell b c flow).outputs c ≡ true
-with_given true c flow e lt = bit_or (cell_bit c) flow.outputs c ∙ or_left _ _ (in_cell_bit c lt)
+with_given true c flow e lt = bit_of_or (cell_bit c) flow.outputs c ∙ or_left _ _ (in_cell_bit c lt)
 with_given false c flow e lt = absurd (both_ways _ refl e)
 
 with_read : (b : Bool) (c : ℕ) (flow : Flow) → b ≡ false → c < 64 → bit (with_cell b c flow).inputs c ≡ true
 with_read true c flow e lt = absurd (both_ways _ e refl)
-with_read false c flow e lt = bit_or (cell_bit c) flow.inputs c ∙ or_left _ _ (in_cell_bit c lt)
+with_read false c flow e lt = bit_of_or (cell_bit c) flow.inputs c ∙ or_left _ _ (in_cell_bit c lt)
 
 still_given : (b : Bool) (c d : ℕ) (flow : Flow) → bit flow.outputs c ≡ true → bit (with_cell b d flow).outputs c ≡ true
-still_given true c d flow h = bit_or (cell_bit d) flow.outputs c ∙ or_right _ _ h
+still_given true c d flow h = bit_of_or (cell_bit d) flow.outputs c ∙ or_right _ _ h
 still_given false c d flow h = h
 
 still_read : (b : Bool) (c d : ℕ) (flow : Flow) → bit flow.inputs c ≡ true → bit (with_cell b d flow).inputs c ≡ true
 still_read true c d flow h = h
-still_read false c d flow h = bit_or (cell_bit d) flow.inputs c ∙ or_right _ _ h
+still_read false c d flow h = bit_of_or (cell_bit d) flow.inputs c ∙ or_right _ _ h
 
 given_from : (mask : ℕ) {k i c : ℕ} {cs : List ℕ} → NamesFrom mask true k cs i c → c < 64 → bit (flow_from mask k cs).outputs c ≡ true
 given_from mask {k} {i} {c} (here e) lt = with_given (bit mask k) c _ e lt

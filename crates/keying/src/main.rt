@@ -1,6 +1,8 @@
 //! Rules keyed at a desk one by one, and the figures brought up to date: the reel's seven rules, three sums of which two
 //! feed each other, and a card at the card calculator.
 
+#![tactic(auto)]
+
 mod cards;
 mod desk;
 mod keyed;

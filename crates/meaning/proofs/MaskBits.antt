@@ -42,13 +42,13 @@ two_by_two P a b c d (suc zero) (suc (suc v)) hu hv = absurd (omega arith)
 two_by_two P a b c d (suc (suc u)) v hu hv = absurd (omega arith)
 
 -- The bits of what two masks share, and of both together.
-pub bit_and : (a b i : ℕ) → bit (bit_and a b) i ≡ (bit a i && bit b i)
-bit_and a b i =
+pub bit_of_and : (a b i : ℕ) → bit (bit_and a b) i ≡ (bit a i && bit b i)
+bit_of_and a b i =
     ap (λ n. eqb (n % 2) 1) (and_shr a b i) ∙ ap (λ n. eqb n 1) (and_mod (a / 2 ^ i) (b / 2 ^ i) 1)
     ∙ two_by_two (λ u v. eqb (bit_and u v) 1 ≡ (eqb u 1 && eqb v 1)) refl refl refl refl (a / 2 ^ i % 2) (b / 2 ^ i % 2) (mod_below _ 2 (omega arith)) (mod_below _ 2 (omega arith))
 
-pub bit_or : (a b i : ℕ) → bit (bit_or a b) i ≡ (bit a i || bit b i)
-bit_or a b i =
+pub bit_of_or : (a b i : ℕ) → bit (bit_or a b) i ≡ (bit a i || bit b i)
+bit_of_or a b i =
     ap (λ n. eqb (n % 2) 1) (or_shr a b i) ∙ ap (λ n. eqb n 1) (or_mod (a / 2 ^ i) (b / 2 ^ i) 1)
     ∙ two_by_two (λ u v. eqb (bit_or u v) 1 ≡ (eqb u 1 || eqb v 1)) refl refl refl refl (a / 2 ^ i % 2) (b / 2 ^ i % 2) (mod_below _ 2 (omega arith)) (mod_below _ 2 (omega arith))
 
@@ -65,13 +65,13 @@ no_bit_of_0 i is = let lt : i < 0 = bit_below 0 0 i (omega arith) is in omega ar
 
 -- Masks that share nothing have no bit in common, and the reverse.
 pub apart_bits : (a b i : ℕ) → bit_and a b ≡ 0 → bit a i ≡ true → bit b i ≡ true → ⊥
-apart_bits a b i apart ha hb = no_bit_of_0 i (ap (λ m. bit m i) (sym apart) ∙ bit_and a b i ∙ and_from (bit a i) (bit b i) ha hb)
+apart_bits a b i apart ha hb = no_bit_of_0 i (ap (λ m. bit m i) (sym apart) ∙ bit_of_and a b i ∙ and_from (bit a i) (bit b i) ha hb)
 
 pub common_bit : (a b : ℕ) → (bit_and a b ≡ 0 → ⊥) → (i : ℕ) × (bit a i ≡ true) × (bit b i ≡ true)
 common_bit a b shared =
     let m = bit_and a b in
     let some = some_bit m m (below_power m) (⊎_elim (λ e. absurd (shared e)) (λ h. h) (zero_or m)) in
-    let parts = and_parts (bit a some.0) (bit b some.0) (sym (bit_and a b some.0) ∙ some.1) in
+    let parts = and_parts (bit a some.0) (bit b some.0) (sym (bit_of_and a b some.0) ∙ some.1) in
     (some.0, parts.0, parts.1)
 
 pub bits_apart : (a b : ℕ) → ((i : ℕ) → bit a i ≡ true → bit b i ≡ true → ⊥) → bit_and a b ≡ 0
@@ -80,13 +80,13 @@ bits_apart a b none = ⊎_elim (λ e. e) (λ shared. let c = common_bit a b shar
 -- What is apart from two masks is apart from both together, and what is apart from both together from each.
 pub apart_or : (a b m : ℕ) → bit_and a m ≡ 0 → bit_and b m ≡ 0 → bit_and (bit_or a b) m ≡ 0
 apart_or a b m ha hb =
-    bits_apart (bit_or a b) m (λ i hab hm. ⊎_elim (λ h. apart_bits a m i ha h hm) (λ h. apart_bits b m i hb h hm) (or_cases (bit a i) (bit b i) (sym (bit_or a b i) ∙ hab)))
+    bits_apart (bit_or a b) m (λ i hab hm. ⊎_elim (λ h. apart_bits a m i ha h hm) (λ h. apart_bits b m i hb h hm) (or_cases (bit a i) (bit b i) (sym (bit_of_or a b i) ∙ hab)))
 
 pub apart_left : (a b m : ℕ) → bit_and (bit_or a b) m ≡ 0 → bit_and a m ≡ 0
-apart_left a b m h = bits_apart a m (λ i ha hm. apart_bits (bit_or a b) m i h (bit_or a b i ∙ or_left (bit a i) (bit b i) ha) hm)
+apart_left a b m h = bits_apart a m (λ i ha hm. apart_bits (bit_or a b) m i h (bit_of_or a b i ∙ or_left (bit a i) (bit b i) ha) hm)
 
 pub apart_right : (a b m : ℕ) → bit_and (bit_or a b) m ≡ 0 → bit_and b m ≡ 0
-apart_right a b m h = bits_apart b m (λ i hb hm. apart_bits (bit_or a b) m i h (bit_or a b i ∙ or_right (bit a i) (bit b i) hb) hm)
+apart_right a b m h = bits_apart b m (λ i hb hm. apart_bits (bit_or a b) m i h (bit_of_or a b i ∙ or_right (bit a i) (bit b i) hb) hm)
 
 -- A power of two has one bit.
 pub power_bit : (c d : ℕ) → bit (2 ^ c) d ≡ true → d ≡ c

@@ -1,5 +1,7 @@
 //! What a ranking and a calculator are, for code that serves every one of them.
 
+#![tactic(auto)]
+
 ghost use Rattle.std.specs.Prelude.{◌≡◌, ◌≤◌, length, take, slice_index_or, slice_set};
 ghost use Rattle.meaning.specs.Ranks.{Ranks, RankLaws};
 ghost use Rattle.meaning.specs.Calc.{Calc, CalcLaws, figure_at, tells};

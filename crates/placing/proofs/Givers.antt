@@ -5,7 +5,7 @@ use Rattle.std.proofs.lemmas.List.{drop_more, drop_all}
 use Rattle.std.proofs.ByRecursion.{All-append}
 use Rattle.std.proofs.lemmas.Bool.{cond_both, cond-true, cond-false, cases_eq, or_cases, both_ways}
 use Rattle.meaning.specs.Masks.{bit}
-use Rattle.meaning.proofs.MaskBits.{no_bit_of_0, bit_or, power_bit, apart_bits}
+use Rattle.meaning.proofs.MaskBits.{no_bit_of_0, bit_of_or, power_bit, apart_bits}
 use Rattle.placing.specs.declared.rules.Rule.{Rule}
 use Rattle.placing.specs.declared.rules.State.{State}
 use Rattle.placing.specs.declared.rules.State.TheVariants.{Absent, Waiting, InForce}
@@ -59,7 +59,7 @@ on_left x (y ∷ xs) ys (inr h) = inr (on_left x xs ys h)
 pub mask_cell : (cs : List ℕ) (c : ℕ) → bit (mask_of cs) c ≡ true → On c cs
 mask_cell [] c h = absurd (no_bit_of_0 c h)
 mask_cell (d ∷ cs) c h =
-    ⊎_elim (λ is. inl (power_bit d c is)) (λ is. inr (mask_cell cs c is)) (or_cases (bit (2 ^ d) c) (bit (mask_of cs) c) (sym (bit_or (2 ^ d) (mask_of cs) c) ∙ h))
+    ⊎_elim (λ is. inl (power_bit d c is)) (λ is. inr (mask_cell cs c is)) (or_cases (bit (2 ^ d) c) (bit (mask_of cs) c) (sym (bit_of_or (2 ^ d) (mask_of cs) c) ∙ h))
 
 module _ (rules : List Rule) (states : List State) where
   -- What is on the pile stays there.

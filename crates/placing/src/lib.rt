@@ -1,5 +1,7 @@
 //! Who is in force: the placing search on plain rank numbers.
 
+#![tactic(auto)]
+
 pub mod board;
 mod calls;
 mod lawful;

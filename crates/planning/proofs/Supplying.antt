@@ -4,7 +4,7 @@ use lib.Bits.{bit_and}
 use Rattle.std.proofs.lemmas.Bool.{cases_Bool, both_ways, or_cases, or_left, or_right, eq-eqb, eqb-true}
 use Rattle.meaning.specs.Lists.{is_on}
 use Rattle.meaning.specs.Masks.{bit}
-use Rattle.meaning.proofs.MaskBits.{no_bit_of_0, bit_or, apart_bits, common_bit, bits_apart}
+use Rattle.meaning.proofs.MaskBits.{no_bit_of_0, bit_of_or, apart_bits, common_bit, bits_apart}
 use Rattle.planning.specs.declared.flows.Flow.{Flow}
 use Rattle.planning.specs.Flows.{flow_at, inputs_by, outputs_by, flows, rule_in_force, Gives, Feeds, NoTwoGivers}
 use Rattle.planning.specs.Plan.{Ready}
@@ -26,13 +26,13 @@ reads_in_force None c h = absurd (no_bit_of_0 c h)
 giver_of : (rows : List (Option Flow)) (c : ℕ) → bit (outputs_of rows) c ≡ true → (x : ℕ) × Gives rows x c
 giver_of [] c h = absurd (no_bit_of_0 c h)
 giver_of (row ∷ rows) c h =
-    ⊎_elim (λ first. (0, first)) (λ later. let g = giver_of rows c later in (suc g.0, g.1)) (or_cases (bit (outputs_by row) c) (bit (outputs_of rows) c) (sym (bit_or (outputs_by row) (outputs_of rows) c) ∙ h))
+    ⊎_elim (λ first. (0, first)) (λ later. let g = giver_of rows c later in (suc g.0, g.1)) (or_cases (bit (outputs_by row) c) (bit (outputs_of rows) c) (sym (bit_of_or (outputs_by row) (outputs_of rows) c) ∙ h))
 
 -- A cell that a rule gives is among those that the rules give all together.
 given : (rows : List (Option Flow)) (x c : ℕ) → Gives rows x c → bit (outputs_of rows) c ≡ true
 given [] x c h = absurd (no_bit_of_0 c h)
-given (row ∷ rows) zero c h = bit_or (outputs_by row) (outputs_of rows) c ∙ or_left (bit (outputs_by row) c) (bit (outputs_of rows) c) h
-given (row ∷ rows) (suc x) c h = bit_or (outputs_by row) (outputs_of rows) c ∙ or_right (bit (outputs_by row) c) (bit (outputs_of rows) c) (given rows x c h)
+given (row ∷ rows) zero c h = bit_of_or (outputs_by row) (outputs_of rows) c ∙ or_left (bit (outputs_by row) c) (bit (outputs_of rows) c) h
+given (row ∷ rows) (suc x) c h = bit_of_or (outputs_by row) (outputs_of rows) c ∙ or_right (bit (outputs_by row) c) (bit (outputs_of rows) c) (given rows x c h)
 
 -- A rule that passes the test is in force and reads no pending cell.
 pub ready_parts : (row : Option Flow) (pending : ℕ) → is_ready row pending ≡ true → (flows row ≡ true) × (bit_and (inputs_by row) pending ≡ 0)

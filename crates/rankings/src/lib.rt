@@ -1,5 +1,7 @@
 //! The two rankings of the mill: by class, and by delivery day and then class.
 
+#![tactic(auto)]
+
 ghost use Rattle.std.specs.Prelude.{◌≡◌};
 ghost use Rattle.meaning.specs.Ranks.{RankLaws};
 ghost use Rattle.rankings.specs.Strengths.{by_number, then_by, is_class, class_ranks, dated_ranks};

@@ -1,5 +1,7 @@
 //! Rank numbers: one for each rule, all different.
 
+#![tactic(auto)]
+
 ghost use Rattle.std.specs.Prelude.{◌≡◌, ℕ, ◌<◌, ◌≤◌, false, length, if◌then◌else◌, Some};
 ghost use Rattle.ranks.specs.Numbers.{rank_in, share_rank};
 ghost use Rattle.ranks.specs.RankOrder.{strength_at, if_known, strength_of, precedes as precedesBy, ranks_before, rank_number, rank_list, Orders};

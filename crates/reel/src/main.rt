@@ -1,6 +1,8 @@
 //! A reel of 480 kilos, 1,200 wide. First it is worked out step by step by the quantity calculator alone, at its true
 //! grammage of 79.6 and at the rounded 80.0; then its seven rules are put on a board one by one.
 
+#![tactic(auto)]
+
 ghost use Rattle.std.specs.Prelude.{◌≡◌};
 ghost use Rattle.meaning.specs.Calc.{tells};
 ghost use Rattle.calculators.specs.Quantities.{quantities};

@@ -2,7 +2,7 @@
 
 ghost use Rattle.std.specs.Prelude.{◌≡◌, ◌^◌, ◌≤◌, true, [], ◌∷◌, pos, ◌+ℤ◌, ◌-ℤ◌, ◌*ℤ◌, ◌≢◌, int_div, int_lt, unsigned_abs};
 ghost use Rattle.calculators.specs.Forms.{lawful_forms};
-ghost use Rattle.calculators.specs.Quantities.{is_quantity, fault_number, result_of, quotient, entry as entry_of, sum as sum_of, product as productOf, mark as mark_of, limit as limitOf, quantity_forms, quantities};
+ghost use Rattle.calculators.specs.Quantities.{is_quantity, fault_number, result_of, quotient, entry as entry_of, sum as sum_of, product as product_of, mark as mark_of, limit as limit_of, quantity_forms, quantities};
 ghost use Rattle.calculators.specs.QuantitySteps.{answer_of, inputs_among, by_places};
 ghost use Rattle.calculators.specs.QuantityLaws.{quantities_lawful};
 
@@ -172,7 +172,7 @@ fn sum(way: u8, p: i64, a: i64, b: i64, c: i64) -> Result<i64, QuantityFault>
 
 /// Product, places a, b, c: c = a × b ÷ P; a = c × P ÷ b; b = c × P ÷ a.
 fn product(way: u8, p: i64, a: i64, b: i64, c: i64) -> Result<i64, QuantityFault>
-    ensures { answer_of result ≡ productOf way p (inputs_among way a b c) }
+    ensures { answer_of result ≡ product_of way p (inputs_among way a b c) }
 {
     if p < 1 {
         return Err(QuantityFault::ParameterBelowOne);
@@ -201,7 +201,7 @@ fn mark(a: i64, p: i64) -> Result<i64, QuantityFault>
 
 /// Limit, places a, b: b = 1 if a is under P, else 0.
 fn limit(way: u8, p: i64, a: i64) -> Result<i64, QuantityFault>
-    ensures { answer_of result ≡ limitOf way p (a ∷ []) }
+    ensures { answer_of result ≡ limit_of way p (a ∷ []) }
 {
     match way {
         0 => mark(a, p),

@@ -109,7 +109,7 @@ fn ask_output<C: Calculator>(
     figures: &mut [C::Figure],
     causes: &mut [Option<Cause>],
 )
-    ensures { ◌≡◌ {A = Table C.Figure} (record { figures = figures.exit.now; blanks = causes.new }) (if bit way.now.outputs place then asked_at (meaning calculator.now) way.now p place cell (record { figures = figures.entry.now; blanks = causes.old }) else (record { figures = figures.entry.now; blanks = causes.old })) }
+    ensures { ◌≡◌ {A = Table C.Figure} (record { figures = figures.exit.now; blanks = causes.new }) (if bit way.now.outputs place then asked_at (C.meaning calculator.now) way.now p place cell (record { figures = figures.entry.now; blanks = causes.old }) else (record { figures = figures.entry.now; blanks = causes.old })) }
 {
     if way.is_output(place) {
         let told = calculator.work_out(way.kind, way.way, p, figures, way.places(), place);
@@ -125,7 +125,7 @@ fn ask_outputs<C: Calculator>(
     figures: &mut [C::Figure],
     causes: &mut [Option<Cause>],
 )
-    ensures { ◌≡◌ {A = Table C.Figure} (record { figures = figures.exit.now; blanks = causes.new }) (asked (meaning calculator.now) way.now p (record { figures = figures.entry.now; blanks = causes.old })) }
+    ensures { ◌≡◌ {A = Table C.Figure} (record { figures = figures.exit.now; blanks = causes.new }) (asked (C.meaning calculator.now) way.now p (record { figures = figures.entry.now; blanks = causes.old })) }
 {
     let places = way.places();
     for i in 0..places.len() {
@@ -141,7 +141,7 @@ fn work_out<C: Calculator>(
     figures: &mut [C::Figure],
     causes: &mut [Option<Cause>],
 )
-    ensures { ◌≡◌ {A = Table C.Figure} (record { figures = figures.exit.now; blanks = causes.new }) (worked_out (meaning calculator.now) way.now p (record { figures = figures.entry.now; blanks = causes.old })) }
+    ensures { ◌≡◌ {A = Table C.Figure} (record { figures = figures.exit.now; blanks = causes.new }) (worked_out (C.meaning calculator.now) way.now p (record { figures = figures.entry.now; blanks = causes.old })) }
 {
     if has_blank_input(way, causes) {
         blank_outputs(Cause::InputBlank, way, causes);
@@ -158,7 +158,7 @@ fn take_turn<C: Calculator>(
     figures: &mut [C::Figure],
     causes: &mut [Option<Cause>],
 )
-    ensures { ◌≡◌ {A = Table C.Figure} (record { figures = figures.exit.now; blanks = causes.new }) (turn (meaning calculator.now) p row (record { figures = figures.entry.now; blanks = causes.old })) }
+    ensures { ◌≡◌ {A = Table C.Figure} (record { figures = figures.exit.now; blanks = causes.new }) (turn (C.meaning calculator.now) p row (record { figures = figures.entry.now; blanks = causes.old })) }
 {
     match row {
         Some(way) => work_out(calculator, &way, p, figures, causes),
@@ -175,7 +175,7 @@ fn take_turns<C: Calculator>(
     figures: &mut [C::Figure],
     causes: &mut [Option<Cause>],
 )
-    ensures { ◌≡◌ {A = Table C.Figure} (record { figures = figures.exit.now; blanks = causes.new }) (turns (meaning calculator.now) rows.now parameters.now order.now (record { figures = figures.entry.now; blanks = causes.old })) }
+    ensures { ◌≡◌ {A = Table C.Figure} (record { figures = figures.exit.now; blanks = causes.new }) (turns (C.meaning calculator.now) rows.now parameters.now order.now (record { figures = figures.entry.now; blanks = causes.old })) }
 {
     for x in order {
         let n = usize::from(*x);
@@ -195,8 +195,8 @@ pub fn update<C: Calculator>(
     parameters: &[C::Figure],
     figures: &mut [C::Figure],
 ) -> Blanks
-    ensures value { ◌≡◌ {A = Table C.Figure} (record { figures = figures.exit.now; blanks = result.causes }) (updated (meaning calculator.now) rows.now parameters.now (numbers_of plan.now.order) (numbers_of plan.now.held) figures.entry.now) }
-    ensures lawful { (n : ℕ) → Planned (meaning calculator.now) n rows.now (numbers_of plan.now.order) (numbers_of plan.now.held) → n ≤ length figures.entry.now → UpdateLaws (meaning calculator.now) n rows.now parameters.now (numbers_of plan.now.order) (numbers_of plan.now.held) figures.entry.now (record { figures = figures.exit.now; blanks = result.causes }) }
+    ensures value { ◌≡◌ {A = Table C.Figure} (record { figures = figures.exit.now; blanks = result.causes }) (updated (C.meaning calculator.now) rows.now parameters.now (numbers_of plan.now.order) (numbers_of plan.now.held) figures.entry.now) }
+    ensures lawful { (n : ℕ) → Planned (C.meaning calculator.now) n rows.now (numbers_of plan.now.order) (numbers_of plan.now.held) → n ≤ length figures.entry.now → UpdateLaws (C.meaning calculator.now) n rows.now parameters.now (numbers_of plan.now.order) (numbers_of plan.now.held) figures.entry.now (record { figures = figures.exit.now; blanks = result.causes }) }
 {
     let mut causes = [None; CELLS];
     hold_all(rows, plan.held.as_slice(), &mut causes);

@@ -2,7 +2,7 @@
 
 ghost use Rattle.std.specs.Prelude.{◌≡◌, ◌≤◌, length};
 ghost use Rattle.meaning.specs.Masks.{bit};
-ghost use Rattle.figures.specs.Ways.{places_of, cell_bit, with_cell as withCellOf, flow_of, flow_by, flows_of};
+ghost use Rattle.figures.specs.Ways.{places_of, cell_bit, with_cell as with_cell_of, flow_of, flow_by, flows_of};
 
 pub use meaning::PLACES;
 use meaning::masks::has_bit;
@@ -63,7 +63,7 @@ fn cell_bit(cell: u8) -> u64
 
 /// One cell more, given or read.
 fn with_cell(flow: Flow, is_output: bool, cell: u8) -> Flow
-    ensures { result ≡ withCellOf is_output cell flow }
+    ensures { result ≡ with_cell_of is_output cell flow }
 {
     if is_output {
         Flow {

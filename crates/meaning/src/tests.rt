@@ -10,9 +10,9 @@ use super::*;
 
 /// Of two strengths that the ranking knows, one that is after neither.
 fn first_of<R: Ranking>(ranking: &R, a: R::Strength, b: R::Strength) -> R::Strength
-    requires known { ((meaning ranking.now).known a ≡ true) × ((meaning ranking.now).known b ≡ true) }
-    ensures not_after_a { not_after ((meaning ranking.now).order result a) ≡ true }
-    ensures not_after_b { not_after ((meaning ranking.now).order result b) ≡ true }
+    requires known { ((R.meaning ranking.now).known a ≡ true) × ((R.meaning ranking.now).known b ≡ true) }
+    ensures not_after_a { not_after ((R.meaning ranking.now).order result a) ≡ true }
+    ensures not_after_b { not_after ((R.meaning ranking.now).order result b) ≡ true }
 {
     match ranking.compare(a, b) {
         Order::Before | Order::Level => a,
@@ -31,8 +31,8 @@ fn worked_out_or_start<C: Calculator>(
     places: &[u8],
     output: u8,
 ) -> C::Figure
-    requires { All (λ x. (meaning calculator.now).takes x ≡ true) table.now }
-    ensures { (meaning calculator.now).takes result ≡ true }
+    requires { All (λ x. (C.meaning calculator.now).takes x ≡ true) table.now }
+    ensures { (C.meaning calculator.now).takes result ≡ true }
 {
     if kind >= calculator.kind_count() || way >= calculator.way_count(kind) {
         return calculator.start();

@@ -3,7 +3,7 @@
 ghost use Rattle.std.specs.Prelude.{◌≡◌, ◌^◌, ◌<◌, set, replicate, if◌then◌else◌, slice_index_or, slice_set};
 ghost use Rattle.placing.specs.declared.rules.State.TheVariants.{Absent, Waiting};
 ghost use Rattle.placing.specs.Board.{state_of, is_standing, no_rule, way_by, empty_rule, standing_mask};
-ghost use Rattle.placing.specs.Search.{giver as giverOf, one_of};
+ghost use Rattle.placing.specs.Search.{giver as giver_of, one_of};
 ghost use Rattle.placing.specs.Choice.{Settled};
 ghost use Rattle.ranks.specs.Numbers.{rank_in};
 ghost use Rattle.placing.specs.Answers.{AddsTo, RemovesFrom, is_rule};
@@ -58,7 +58,7 @@ impl Board {
 
     /// The rule that gives a cell, if there is one.
     pub fn giver(&self, cell: u8) -> Option<u8>
-        ensures { one_of result ≡ giverOf self.now.rules self.now.states cell }
+        ensures { one_of result ≡ giver_of self.now.rules self.now.states cell }
     {
         giver(&self.rules, &self.states, cell)
     }

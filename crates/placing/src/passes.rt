@@ -2,9 +2,9 @@
 
 ghost use Rattle.std.specs.Prelude.{◌≡◌, ◌-◌, ◌<◌, true, ◌||◌, if◌then◌else◌, nat_eq, slice_set};
 ghost use Rattle.placing.specs.Board.{state_of, is_standing, is_waiting};
-ghost use Rattle.placing.specs.Search.{marked as markedBy, applied as appliedTo, Places};
+ghost use Rattle.placing.specs.Search.{marked as marked_by, applied as applied_to, Places};
 ghost use Rattle.ranks.specs.Numbers.{rank_in};
-ghost use Rattle.placing.specs.Calls.{Passes, PassesBehind, Adds, Removes, WaitsAt, same_state, changed as changedBy};
+ghost use Rattle.placing.specs.Calls.{Passes, PassesBehind, Adds, Removes, WaitsAt, same_state, changed as changed_by};
 
 use crate::rules::{Mark, RULES, Rule, State, written};
 use crate::search::{rank_of, start, take_off};
@@ -18,7 +18,7 @@ pub(crate) struct Outcome {
 
 /// What a mark makes of a rule.
 fn marked(state: State, mark: Mark) -> State
-    ensures { result ≡ markedBy state mark }
+    ensures { result ≡ marked_by state mark }
 {
     match mark {
         Mark::PutOut => State::Waiting,
@@ -29,7 +29,7 @@ fn marked(state: State, mark: Mark) -> State
 
 /// The states as the marks make them.
 fn applied(states: &[State; RULES], marks: &[Mark; RULES]) -> [State; RULES]
-    ensures { result ≡ appliedTo states.now marks.now }
+    ensures { result ≡ applied_to states.now marks.now }
 {
     let mut after = *states;
     for x in 0..RULES {
@@ -171,7 +171,7 @@ fn pass_behind(
 
 /// The number of rules other than r whose way or waiting is different.
 pub(crate) fn changed(r: u8, before: &[State; RULES], after: &[State; RULES]) -> u8
-    ensures { result ≡ changedBy r before.now after.now }
+    ensures { result ≡ changed_by r before.now after.now }
 {
     let mut count = 0;
     for x in 0..RULES {

@@ -3,7 +3,7 @@
 ghost use Rattle.std.specs.Prelude.{◌≡◌, ◌+◌, ◌*◌, ◌<◌, ◌≤◌, true, [], ◌∷◌, length, take, drop, replicate, ◌==◌, bit_and, nat_lt, slice_index_or, slice_set};
 ghost use Rattle.placing.specs.declared.rules.Mark.TheVariants.{PutOut, Fresh};
 ghost use Rattle.placing.specs.Board.{no_way, ways_of, listed, given};
-ghost use Rattle.placing.specs.Search.{fresh_at, giver as giverOf, piled, one_of, fresh_count, Leads, Tries};
+ghost use Rattle.placing.specs.Search.{fresh_at, giver as giver_of, piled, one_of, fresh_count, Leads, Tries};
 ghost use Rattle.ranks.specs.Numbers.{rank_in};
 
 use crate::rules::{Mark, NO_WAY, RULES, Rule, State, Way, written};
@@ -110,7 +110,7 @@ fn is_free(taken: u64, way: &Way) -> bool
 
 /// The rule that gives a cell, if there is one.
 pub(crate) fn giver(rules: &[Rule; RULES], states: &[State; RULES], cell: u8) -> Option<u8>
-    ensures { one_of result ≡ giverOf rules.now states.now cell }
+    ensures { one_of result ≡ giver_of rules.now states.now cell }
 {
     for x in 0..RULES {
         if has_bit(given_by(&rules[x], states[x]), cell) {

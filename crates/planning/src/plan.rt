@@ -5,7 +5,7 @@ ghost use Rattle.planning.specs.RuleLists.{numbers_of};
 ghost use Rattle.planning.specs.Plan.{IsPlan, held_rules, passing};
 ghost use Rattle.planning.specs.Laws.{PlanLaws, HeldLaws};
 ghost use Rattle.planning.specs.Flows.{rule_in_force, outputs_by};
-ghost use Rattle.planning.specs.Left.{outputs_of, is_ready as isReadyAmong, FirstReady};
+ghost use Rattle.planning.specs.Left.{outputs_of, is_ready as is_ready_among, FirstReady};
 
 use crate::flows::Flow;
 use crate::rule_list::RuleList;
@@ -65,7 +65,7 @@ fn given_by(row: Option<Flow>) -> u64
 
 /// Whether a rule is in force and reads none of the pending cells, whose givers are not yet planned.
 fn is_ready(row: Option<Flow>, pending: u64) -> bool
-    ensures { result ≡ isReadyAmong row pending }
+    ensures { result ≡ is_ready_among row pending }
 {
     match row {
         Some(flow) => flow.inputs & pending == 0,

@@ -4,7 +4,7 @@
 
 ghost use Rattle.std.specs.Prelude.{◌≡◌, ℕ, ◌<◌, ◌≤◌, false, length, if◌then◌else◌, Some};
 ghost use Rattle.ranks.specs.Numbers.{rank_in, share_rank};
-ghost use Rattle.ranks.specs.RankOrder.{strength_at, if_known, strength_of, precedes as precedesBy, ranks_before, rank_number, rank_list, Orders};
+ghost use Rattle.ranks.specs.RankOrder.{strength_at, if_known, strength_of, precedes as precedes_by, ranks_before, rank_number, rank_list, Orders};
 
 pub use meaning::RULES;
 use meaning::masks::has_bit;
@@ -24,8 +24,8 @@ impl Ranks {
     /// if its strength is before, or is level and x has the lower number. A rule that does not stand, or whose strength the
     /// table lacks or the ranking does not know, comes behind all others, by number.
     pub fn new<R: Ranking>(ranking: &R, strengths: &[R::Strength], standing: u64) -> Ranks
-        ensures value { result.of ≡ rank_list (meaning ranking.now) strengths.now standing }
-        ensures orders { Orders (meaning ranking.now) strengths.now standing (rank_in result.of) }
+        ensures value { result.of ≡ rank_list (R.meaning ranking.now) strengths.now standing }
+        ensures orders { Orders (R.meaning ranking.now) strengths.now standing (rank_in result.of) }
     {
         let mut of = [0; RULES];
         for x in 0..64u8 {
@@ -49,7 +49,7 @@ fn strength_of<R: Ranking>(
     standing: u64,
     x: u8,
 ) -> Option<R::Strength>
-    ensures { result ≡ strength_of (meaning ranking.now) strengths.now standing x }
+    ensures { result ≡ strength_of (R.meaning ranking.now) strengths.now standing x }
 {
     if !has_bit(standing, x) {
         return None;
@@ -62,7 +62,7 @@ fn strength_of<R: Ranking>(
 
 /// A strength, if the ranking knows it.
 fn if_known<R: Ranking>(ranking: &R, strength: R::Strength) -> Option<R::Strength>
-    ensures { result ≡ if_known (meaning ranking.now) (Some strength) }
+    ensures { result ≡ if_known (R.meaning ranking.now) (Some strength) }
 {
     if ranking.knows(strength) {
         Some(strength)
@@ -90,7 +90,7 @@ fn precedes<R: Ranking>(
     second: Option<R::Strength>,
     y: u8,
 ) -> bool
-    ensures { result ≡ precedesBy (meaning ranking.now) first x second y }
+    ensures { result ≡ precedes_by (R.meaning ranking.now) first x second y }
 {
     match (first, second) {
         (Some(a), Some(b)) => match ranking.compare(a, b) {
@@ -112,7 +112,7 @@ fn ranks_before<R: Ranking>(
     x: u8,
     y: u8,
 ) -> bool
-    ensures { result ≡ ranks_before (meaning ranking.now) strengths.now standing x y }
+    ensures { result ≡ ranks_before (R.meaning ranking.now) strengths.now standing x y }
 {
     let first = strength_of(ranking, strengths, standing, x);
     let second = strength_of(ranking, strengths, standing, y);
@@ -129,7 +129,7 @@ fn one_if(test: bool) -> u8
 
 /// The rank number of a rule: how many rules rank before it.
 fn rank_number<R: Ranking>(ranking: &R, strengths: &[R::Strength], standing: u64, x: u8) -> u8
-    ensures { result ≡ rank_number (meaning ranking.now) strengths.now standing x }
+    ensures { result ≡ rank_number (R.meaning ranking.now) strengths.now standing x }
 {
     let mut count = 0;
     for y in 0..64u8 {

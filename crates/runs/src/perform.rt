@@ -4,7 +4,7 @@ ghost use Rattle.std.specs.Prelude.{◌≡◌, ◌+◌, true, false};
 ghost use Rattle.sheets.specs.Inside.{contentsOf};
 ghost use Rattle.runs.specs.Steps.{add_answer, remove_answer, enter_answer, Step};
 ghost use Rattle.runs.specs.Runs.{Formed};
-ghost use Rattle.runs.specs.Performing.{contents_in, is_frozen, world_of, allowed as isAllowedBy, frozen_by as frozenAfter, misplaced_from, unperformed as unperformedBy, Performs};
+ghost use Rattle.runs.specs.Performing.{contents_in, is_frozen, world_of, allowed as is_allowed_by, frozen_by as frozen_after, misplaced_from, unperformed as unperformed_by, Performs};
 
 use crate::calls::{Answer, Call, Unperformed};
 use crate::held::Held;
@@ -34,7 +34,7 @@ struct Turned {
 
 /// Whether a sheet takes a call in the form that it has.
 fn is_allowed<S: Copy, F: Copy>(frozen: bool, call: Call<S, F>) -> bool
-    ensures { result ≡ isAllowedBy frozen call }
+    ensures { result ≡ is_allowed_by frozen call }
 {
     match call {
         Call::Add(_) | Call::Remove(_) | Call::Freeze => !frozen,
@@ -45,7 +45,7 @@ fn is_allowed<S: Copy, F: Copy>(frozen: bool, call: Call<S, F>) -> bool
 
 /// Whether a sheet is frozen behind a call.
 fn frozen_by<S: Copy, F: Copy>(frozen: bool, call: Call<S, F>) -> bool
-    ensures { result ≡ frozenAfter frozen call }
+    ensures { result ≡ frozen_after frozen call }
 {
     match call {
         Call::Freeze => true,

@@ -6,17 +6,14 @@ use Rattle.ranks.proofs.rank_number.Goals as goal
 pub loop-y-init : goal.loop-y-init
 loop-y-init g c = (sym (count_none (λ z. ranks_before (g.R.Ranking.meaning c.args.ranking.now) c.args.strengths.now c.args.standing z c.args.x)), omega arith)
 
-pub overflow-add-count : goal.overflow-add-count
-overflow-add-count g c = record { fits = omega (arith, c.loop-y.invariant.1, c.loop-y-test.true, c.one-if-count.ensures.bound) }
-
 pub loop-y-preserved : goal.loop-y-preserved
 loop-y-preserved g c =
     let p = λ (z : ℕ). ranks_before (g.R.Ranking.meaning c.args.ranking.now) c.args.strengths.now c.args.standing z c.args.x in
     let y = c.loop-y.y in
     let so_far : c.loop-y.count ≡ count_below p y = c.loop-y.invariant.0 in
-    let one : c.one-if-count.result ≡ cond (p y) 1 0 = c.one-if-count.ensures.value ∙ ap (λ (t : Bool). cond t 1 0) c.ranks-before.ensures in
-    let both : c.loop-y.count + c.one-if-count.result ≡ cond (p y) 1 0 + count_below p y = omega (arith, so_far, one) in
-    (both ∙ sym (count_one p y), omega (arith, c.loop-y.invariant.1, c.one-if-count.ensures.bound))
+    let one : c.one_if-count.result ≡ cond (p y) 1 0 = c.one_if-count.ensures.value ∙ ap (λ (t : Bool). cond t 1 0) c.ranks_before.ensures in
+    let both : c.loop-y.count + c.one_if-count.result ≡ cond (p y) 1 0 + count_below p y = omega (arith, so_far, one) in
+    (both ∙ sym (count_one p y), omega (arith, c.loop-y.invariant.1, c.one_if-count.ensures.bound))
 
 pub returns : goal.returns
 returns g c =

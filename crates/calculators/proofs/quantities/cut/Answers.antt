@@ -9,8 +9,8 @@ use Rattle.calculators.proofs.quantities.cut.Goals as goal
 fits : (c : goal.After-from) → SFits w128 (quot_z c.args.z c.args.d)
 fits c = small_fits (quot_z c.args.z c.args.d) (omega (arith, quotient_small c.args.z c.args.d, c.requires.small))
 
-pub nonzero-div-result : goal.nonzero-div-result
-nonzero-div-result c =
+pub nonzero_div-result : goal.nonzero_div-result
+nonzero_div-result c =
     let same : c.from.result ≡ c.args.d = c.from.ensures ∙ to_z-of_z c.ranges.d in
     let nonzero : 0 < of_z w128 c.args.d = nonzero_bits c.args.d (sfits_widen tt c.ranges.d) c.requires.nonzero in
     (rw same nonzero, rw (to_z-of_z c.ranges.z, widened c.args.d c.from.result c.ranges.d c.from.ensures) (fits c))

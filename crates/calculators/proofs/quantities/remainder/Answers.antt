@@ -12,8 +12,8 @@ first c =
 fits : (c : goal.After-from-3) → SFits w128 (c.args.x -ℤ c.args.y -ℤ c.args.z)
 fits c = two_off_fits c.args.x c.args.y c.args.z c.ranges.x c.ranges.y c.ranges.z
 
-pub overflow-sub-result-2 : goal.overflow-sub-result-2
-overflow-sub-result-2 c = rw (first c, widened c.args.z c.from-3.result c.ranges.z c.from-3.ensures) (fits c)
+pub overflow_sub-result-2 : goal.overflow_sub-result-2
+overflow_sub-result-2 c = rw (first c, widened c.args.z c.from-3.result c.ranges.z c.from-3.ensures) (fits c)
 
 pub returns : goal.returns
 returns c = rw (first c, widened c.args.z c.from-3.result c.ranges.z c.from-3.ensures) (to_z-of_z (fits c))

@@ -9,7 +9,7 @@ loop-i-preserved g c =
     let mask = c.args.way.now.outputs in
     let cs = c.places-places.result.now in
     let i = c.loop-i.i in
-    ap (each_output f mask (i + 1) (drop (i + 1) cs)) c.ask-output.ensures ∙ each_more mask i cs c.loop-i-test.true f (record { figures = c.loop-i.figures; blanks = c.loop-i.causes }) ∙ c.loop-i.invariant
+    ap (each_output f mask (i + 1) (drop (i + 1) cs)) c.ask_output.ensures ∙ each_more mask i cs c.loop-i-test.true f (record { figures = c.loop-i.figures; blanks = c.loop-i.causes }) ∙ c.loop-i.invariant
 
 pub returns : goal.returns
 returns g c =

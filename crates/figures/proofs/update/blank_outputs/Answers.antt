@@ -9,7 +9,7 @@ loop-i-preserved c =
     let f : ℕ → ℕ → List (Option Cause) → List (Option Cause) = λ i d b. set b d (Some c.args.why) in
     let mask = c.args.way.now.outputs in
     let cs = c.places-places.result.now in
-    ap (each_output f mask (c.loop-i.i + 1) (drop (c.loop-i.i + 1) cs)) c.blank-output.ensures ∙ each_more mask c.loop-i.i cs c.loop-i-test.true f c.loop-i.causes ∙ c.loop-i.invariant
+    ap (each_output f mask (c.loop-i.i + 1) (drop (c.loop-i.i + 1) cs)) c.blank_output.ensures ∙ each_more mask c.loop-i.i cs c.loop-i-test.true f c.loop-i.causes ∙ c.loop-i.invariant
 
 pub returns : goal.returns
 returns c =

@@ -10,7 +10,7 @@ loop-x-preserved c =
     let rows = c.args.rows.now in
     let i = c.loop-x.x-index in
     let x = get_or c.args.held.now i 0 in
-    ap (holds rows (drop (i + 1) c.args.held.now)) (c.hold.ensures ∙ ap (λ (row : Option SelectedWay). held_by row c.loop-x.causes) (c.read-or.ensures ∙ ap (λ (n : ℕ). get_or rows n None) c.from.ensures))
+    ap (holds rows (drop (i + 1) c.args.held.now)) (c.hold.ensures ∙ ap (λ (row : Option SelectedWay). held_by row c.loop-x.causes) (c.read_or.ensures ∙ ap (λ (n : ℕ). get_or rows n None) c.from.ensures))
     ∙ sym (at_drop_more (λ (xs : List ℕ). holds rows xs c.loop-x.causes) c.args.held.now i 0 c.loop-x-test.true) ∙ c.loop-x.invariant
 
 pub returns : goal.returns

@@ -13,9 +13,9 @@ loop-x-preserved g c =
     let i = c.loop-x.x-index in
     let x = get_or xs i 0 in
     let t : Table g.row.C-Figure.Denot = record { figures = c.loop-x.figures; blanks = c.loop-x.causes } in
-    let parameter : c.read-or-p.result ≡ get_or ps x m.start = c.read-or-p.ensures ∙ ap (get_or ps c.from-n.result) c.start.ensures ∙ ap (λ (n : ℕ). get_or ps n m.start) c.from-n.ensures in
-    let row : c.read-or.result ≡ get_or rows x None = c.read-or.ensures ∙ ap (λ (n : ℕ). get_or rows n None) c.from-n.ensures in
-    ap (turns m rows ps (drop (i + 1) xs)) (c.take-turn.ensures ∙ ap (λ (p : g.row.C-Figure.Denot). turn m p c.read-or.result t) parameter ∙ ap (λ (r : Option SelectedWay). turn m (get_or ps x m.start) r t) row)
+    let parameter : c.read_or-p.result ≡ get_or ps x m.start = c.read_or-p.ensures ∙ ap (get_or ps c.from-n.result) c.start.ensures ∙ ap (λ (n : ℕ). get_or ps n m.start) c.from-n.ensures in
+    let row : c.read_or.result ≡ get_or rows x None = c.read_or.ensures ∙ ap (λ (n : ℕ). get_or rows n None) c.from-n.ensures in
+    ap (turns m rows ps (drop (i + 1) xs)) (c.take_turn.ensures ∙ ap (λ (p : g.row.C-Figure.Denot). turn m p c.read_or.result t) parameter ∙ ap (λ (r : Option SelectedWay). turn m (get_or ps x m.start) r t) row)
     ∙ sym (at_drop_more (λ (ys : List ℕ). turns m rows ps ys t) xs i 0 c.loop-x-test.true) ∙ c.loop-x.invariant
 
 pub returns : goal.returns

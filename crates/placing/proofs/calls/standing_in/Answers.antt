@@ -17,4 +17,4 @@ loop-i-preserved c =
     let one = cond (is_standing (state_of states k)) (2 ^ k) 0 in
     let here : standing_from k (drop k states) ≡ bit_or one (standing_from (k + 1) (drop (k + 1) states)) = ap (standing_from k) (drop_more states k Absent (omega (arith, c.loop-i.invariant.1))) ∙ ap (λ (n : ℕ). bit_or one (standing_from n (drop (k + 1) states))) (sym (add-one k)) in
     let rest : c.loop-i.mask ≡ standing_from (k + 1) (drop (k + 1) states) = c.loop-i.invariant.0 ∙ ap (λ (n : ℕ). standing_from n (drop n states)) (sym back) in
-    (ap (bit_or c.loop-i.mask) c.standing-bit-mask.ensures ∙ or_comm c.loop-i.mask one ∙ ap (bit_or one) rest ∙ sym here, omega (arith, c.loop-i.invariant.1))
+    (ap (bit_or c.loop-i.mask) c.standing_bit-mask.ensures ∙ or_comm c.loop-i.mask one ∙ ap (bit_or one) rest ∙ sym here, omega (arith, c.loop-i.invariant.1))

@@ -14,8 +14,8 @@ loop-i-init c = (sym (ap mask_of (drop-length c.args.cells.now)), omega arith)
 small : (c : goal.After-shared-slice-known·1) → get_or c.args.cells.now (c.loop-i.i - 1) 0 < 64
 small c = ltb-true _ 64 (every_at (λ n. ltb n 64) c.args.cells.now (c.loop-i.i - 1) 0 c.requires (omega (arith, c.loop-i.invariant.1, c.loop-i-test.true)))
 
-pub overflow-shl-mask : goal.overflow-shl-mask
-overflow-shl-mask c = small c
+pub overflow_shl-mask : goal.overflow_shl-mask
+overflow_shl-mask c = small c
 
 pub loop-i-preserved : goal.loop-i-preserved
 loop-i-preserved c =

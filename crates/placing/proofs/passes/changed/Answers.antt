@@ -4,8 +4,8 @@ use Rattle.placing.specs.Calls.{same_state}
 use Rattle.placing.proofs.Steps.{changed_step, changed_end, at_most_one}
 use Rattle.placing.proofs.passes.changed.Goals as goal
 
-pub overflow-add-count : goal.overflow-add-count
-overflow-add-count c =
+pub overflow_add-count : goal.overflow_add-count
+overflow_add-count c =
     let b = c.args.before.now in
     let a = c.args.after.now in
     record { fits = omega (arith, c.loop-x.invariant.1, c.loop-x-test.true, c.difference-count.ensures, at_most_one (eqb c.loop-x.x c.args.r || same_state (get_or b c.loop-x.x Absent) (get_or a c.loop-x.x Absent))) }

@@ -12,7 +12,7 @@ loop-rank-preserved c t p =
     let K = rank_in c.args.ranks.now in
     let k = c.loop-rank.rank in
     let from = λ (s : List State). Passes R K (k + 1) (64 - (k + 1)) s t in
-    c.loop-rank.invariant t (elim c.match-waiting-at.branch [
+    c.loop-rank.invariant t (elim c.match-waiting_at.branch [
       | in-Some w ↦ let found = w.in-Some.ensures in pass_place R K k w.in-Some.x _ c.loop-rank.after w.place.result.states t c.loop-rank-test.true found.0 found.1 found.2 w.place.ensures (subst from w.after-is p)
       | in-None w ↦ pass_skip R K k c.loop-rank.after t c.loop-rank-test.true w.in-None.ensures (subst from w.after-is p)
     ])

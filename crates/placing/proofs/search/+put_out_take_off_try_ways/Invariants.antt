@@ -11,15 +11,15 @@ use Rattle.placing.proofs.search.+put_out_take_off_try_ways.Given as goal
 abbrev left : Search → ℕ
 left s = fresh_count s.marks * 400 + (385 - s.pile.top)
 
-abbrev pub decreases-put-out : goal.decreases-put-out
-decreases-put-out l = 2 * left l.search + 1
+abbrev pub decreases-put_out : goal.decreases-put_out
+decreases-put_out l = 2 * left l.search + 1
 
-abbrev pub decreases-take-off : goal.decreases-take-off
-decreases-take-off l = 2 * left l.search
+abbrev pub decreases-take_off : goal.decreases-take_off
+decreases-take_off l = 2 * left l.search
 
-abbrev pub decreases-try-ways : goal.decreases-try-ways
-decreases-try-ways l = 2 * left l.search + 1
+abbrev pub decreases-try_ways : goal.decreases-try_ways
+decreases-try_ways l = 2 * left l.search + 1
 
-abbrev pub invariant-try-ways-loop-i : goal.invariant-try-ways-loop-i
-invariant-try-ways-loop-i l =
+abbrev pub invariant-try_ways-loop-i : goal.invariant-try_ways-loop-i
+invariant-try_ways-loop-i l =
     (o : Option (List Mark)) → Tries l.rules l.states (rank_in l.ranks) l.r l.x (drop l.search.pile.top l.search.pile.at) l.search.marks l.search.taken (drop l.i (listed l.rules l.x)) l.i o → Tries l.rules l.states (rank_in l.ranks) l.r l.x (drop l.search.pile.top l.search.pile.at) l.search.marks l.search.taken (listed l.rules l.x) 0 o

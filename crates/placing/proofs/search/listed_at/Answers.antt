@@ -6,7 +6,7 @@ use Rattle.placing.proofs.search.listed_at.Goals as goal
 
 pub returns-then-i-from : goal.returns-then-i-from
 returns-then-i-from c =
-    c.read-or.ensures ∙ sym (get_or-take c.args.count c.args.ways.now c.args.i no_way (omega arith))
+    c.read_or.ensures ∙ sym (get_or-take c.args.count c.args.ways.now c.args.i no_way (omega arith))
 
 pub returns-else-i-from : goal.returns-else-i-from
 returns-else-i-from c =

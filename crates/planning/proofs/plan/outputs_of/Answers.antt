@@ -14,6 +14,6 @@ loop-i-preserved c =
     let k = c.loop-i.i - 1 in
     let back : k + 1 ≡ c.loop-i.i = omega arith in
     let here : outputs_of (drop k rows) ≡ bit_or (outputs_by (flow_at rows k)) (outputs_of (drop (k + 1) rows)) = at_drop_more outputs_of rows k None (omega (arith, c.loop-i.invariant.1)) in
-    let one = ap (bit_or c.loop-i.outputs) c.given-by-outputs.ensures ∙ or_comm c.loop-i.outputs (outputs_by (flow_at rows k)) in
+    let one = ap (bit_or c.loop-i.outputs) c.given_by-outputs.ensures ∙ or_comm c.loop-i.outputs (outputs_by (flow_at rows k)) in
     let rest = c.loop-i.invariant.0 ∙ ap (λ (n : ℕ). outputs_of (drop n rows)) (sym back) in
     (one ∙ ap (bit_or (outputs_by (flow_at rows k))) rest ∙ sym here, omega (arith, c.loop-i.invariant.1))

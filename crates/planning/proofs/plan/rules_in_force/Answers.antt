@@ -8,7 +8,7 @@ use Rattle.planning.proofs.plan.rules_in_force.Goals as goal
 use Rattle.planning.proofs.plan.rules_in_force.Goals.{then-is-some, else-is-some}
 
 -- The invariant at the end of a turn, of the list that is left then.
-abbrev Kept : (c : goal.Joined-is-some) → RuleList → Type 0
+abbrev Kept : (c : goal.Joined-is_some) → RuleList → Type 0
 Kept c r =
     let test = rule_in_force c.args.rows.now in
     let x = c.loop-x.x in
@@ -22,7 +22,7 @@ loop-x-preserved c =
     let so_far = take c.loop-x.list.count c.loop-x.list.numbers in
     let on = passing_on test so_far (passing test 0 64) x 64 c.loop-x.invariant.0 c.loop-x-test.true in
     let over = passing_over test so_far (passing test 0 64) x 64 c.loop-x.invariant.0 c.loop-x-test.true in
-    elim c.if-is-some.branch [
+    elim c.if-is_some.branch [
       | then-is-some w ↦ subst (Kept c) (sym w.list-is) (ap (λ xs. xs ++ passing test (x + 1) (64 - (x + 1))) w.with-list.ensures.value ∙ on (sym (w.if-is-some.ensures ∙ some_flows (flow_at rows x))), omega (arith, c.loop-x.invariant.1, w.with-list.ensures.count))
       | else-is-some w ↦ subst (Kept c) (sym w.list-is) (over (sym (w.if-is-some.ensures ∙ some_flows (flow_at rows x))), omega (arith, c.loop-x.invariant.1))
     ]

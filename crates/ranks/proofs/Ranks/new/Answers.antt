@@ -10,20 +10,24 @@ pub loop-x-preserved : goal.loop-x-preserved
 loop-x-preserved g c =
     let m = g.R.Ranking.meaning c.args.ranking.now in
     let x = c.loop-x.x in
-    let v = c.rank-number.result in
+    let v = c.rank_number.result in
     let of = c.loop-x.of in
-    let here : get_or (set of x v) x 0 ≡ rank_number m c.args.strengths.now c.args.standing x = get_or-set_same of x v 0 (omega (arith, c.loop-x.invariant.1, c.loop-x-test.true)) ∙ c.rank-number.ensures in
+    let here : get_or (set of x v) x 0 ≡ rank_number m c.args.strengths.now c.args.standing x = get_or-set_same of x v 0 (omega (arith, c.loop-x.invariant.1, c.loop-x-test.true)) ∙ c.rank_number.ensures in
     (below_more _ _ (λ k h. get_or-set_other of c.from.result k v 0 (λ q. omega (arith, c.from.ensures)) ∙ c.loop-x.invariant.0 k h) (subst (λ (n : ℕ). get_or (set of n v) x 0 ≡ rank_number m c.args.strengths.now c.args.standing x) (sym c.from.ensures) here), simp length-set c.loop-x.invariant.1)
 
-pub invariant-of-result : goal.invariant-of-result
-invariant-of-result g c =
+pub invariant_of-result : goal.invariant_of-result
+invariant_of-result g c =
     let m = g.R.Ranking.meaning c.args.ranking.now in
     let laws = g.met.R.Ranking.lawful c.args.ranking.now in
     let S = c.args.strengths.now in
     let T = c.args.standing in
     let of = c.loop-x.of in
     let same : (x : ℕ) → x < 64 → rank_in of x ≡ rank_number m S T x = λ x lt. c.loop-x.invariant.0 x (omega (arith, c.loop-x-test.false)) in
-    (c.loop-x.invariant.1, (λ x lt. subst (λ (n : ℕ). n < 64) (sym (same x lt)) (rank_below m laws S T x lt), (shared_not (rank_in of) (λ x y lx ly e. rank_distinct m laws S T x y lx ly (sym (same x lx) ∙ e ∙ same y ly)), tt)))
+    record {
+      sized = c.loop-x.invariant.1;
+      below = λ x lt. subst (λ (n : ℕ). n < 64) (sym (same x lt)) (rank_below m laws S T x lt);
+      distinct = shared_not (rank_in of) (λ x y lx ly e. rank_distinct m laws S T x y lx ly (sym (same x lx) ∙ e ∙ same y ly));
+    }
 
 pub returns : goal.returns
 unfolding rank_list

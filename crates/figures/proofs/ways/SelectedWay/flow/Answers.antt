@@ -14,4 +14,4 @@ loop-i-preserved c =
     let places = c.places-places.result.now in
     let i = c.loop-i.i - 1 in
     let back : i + 1 ≡ c.loop-i.i = omega (arith, c.loop-i-test.true) in
-    (c.with-cell-flow.ensures ∙ ap (λ (b : Bool). with_cell b (get_or places i 0) c.loop-i.flow) c.is-output.ensures ∙ ap (with_cell (bit mask i) (get_or places i 0)) (c.loop-i.invariant.0 ∙ ap (λ (n : ℕ). flow_from mask n (drop n places)) (sym back)) ∙ sym (flow_more mask i places (omega (arith, c.loop-i.invariant.1, c.loop-i-test.true))), omega (arith, c.loop-i.invariant.1))
+    (c.with_cell-flow.ensures ∙ ap (λ (b : Bool). with_cell b (get_or places i 0) c.loop-i.flow) c.is_output.ensures ∙ ap (with_cell (bit mask i) (get_or places i 0)) (c.loop-i.invariant.0 ∙ ap (λ (n : ℕ). flow_from mask n (drop n places)) (sym back)) ∙ sym (flow_more mask i places (omega (arith, c.loop-i.invariant.1, c.loop-i-test.true))), omega (arith, c.loop-i.invariant.1))

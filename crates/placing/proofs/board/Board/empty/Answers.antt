@@ -6,4 +6,4 @@ use Rattle.placing.proofs.Empty.{empty_board}
 use Rattle.placing.proofs.board.Board.empty.Goals as goal
 
 pub of-requires : goal.of-requires
-of-requires c = subst (λ (s : List State). IsBoard (replicate 64 empty_rule) s) (sym c.all-absent.ensures) empty_board
+of-requires c = subst (λ (s : List State). IsBoard (replicate 64 empty_rule) s) (sym c.all_absent.ensures) empty_board

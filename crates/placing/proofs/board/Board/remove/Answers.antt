@@ -11,7 +11,7 @@ pub of-requires : goal.of-requires
 of-requires c =
     let b = c.args.self.now in
     let distinct = subst (λ (of : List ℕ). Distinct (rank_in of)) (sym c.numbers.ensures) (not_shared (rank_in c.args.ranks.now.of) c.args.ranks.now.distinct) in
-    removes_board b.rules b.states (rank_in c.numbers.result.now) c.args.r (board_of b) distinct (omega (arith, c.if-n-ge-RULES.false, c.from-n.ensures)) c.without-rule-after.ensures
+    removes_board b.rules b.states (rank_in c.numbers.result.now) c.args.r (board_of b) distinct (omega (arith, c.if-n-ge-RULES.false, c.from-n.ensures)) c.without_rule-after.ensures
 
 pub returns : goal.returns
 returns c =

@@ -7,11 +7,12 @@ use Rattle.std.proofs.lemmas.Bool.{ltb-true}
 use Rattle.meaning.proofs.Lists.{every_at}
 use Rattle.placing.specs.Board.{mask_of}
 use Rattle.placing.proofs.lawful.mask_of.Goals as goal
+use Rattle.placing.proofs.lawful.mask_of.Goals.{After-shared_slice_known-1}
 
 pub loop-i-init : goal.loop-i-init
 loop-i-init c = (sym (ap mask_of (drop-length c.args.cells.now)), omega arith)
 
-small : (c : goal.After-shared-slice-known·1) → get_or c.args.cells.now (c.loop-i.i - 1) 0 < 64
+small : (c : After-shared_slice_known-1) → get_or c.args.cells.now (c.loop-i.i - 1) 0 < 64
 small c = ltb-true _ 64 (every_at (λ n. ltb n 64) c.args.cells.now (c.loop-i.i - 1) 0 c.requires (omega (arith, c.loop-i.invariant.1, c.loop-i-test.true)))
 
 pub overflow_shl-mask : goal.overflow_shl-mask

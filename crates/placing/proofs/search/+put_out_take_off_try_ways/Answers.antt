@@ -9,7 +9,7 @@ use Rattle.ranks.specs.Numbers.{rank_in}
 use Rattle.placing.proofs.Marks.{fresh_less}
 use Rattle.placing.proofs.Steps.{step_empty, step_over, step_out, step_try, moved, tries_spent, tries_barred, tries_leads, tries_fails}
 use Rattle.placing.proofs.search.+put_out_take_off_try_ways.Goals as goal
-use Rattle.placing.proofs.search.+put_out_take_off_try_ways.Goals.{try-ways-then-is-free+in-None, try-ways-else-is-free}
+use Rattle.placing.proofs.search.+put_out_take_off_try_ways.Goals.{try_ways-then-is_free+in-None, try_ways-else-is_free}
 
 pub put_out-take_off-requires : goal.put_out-take_off-requires
 put_out-take_off-requires t c =
@@ -75,8 +75,8 @@ try_ways-loop-i-preserved t c o rest =
     let lt : c.loop-i.i < length ways = omega (arith, count, c.loop-i-test.true) in
     let clear = λ (w : Way). eqb (bit_and taken w.mask) 0 in
     c.loop-i.invariant o (elim c.if-is_free.branch [
-      | try-ways-then-is-free+in-None w ↦ tries_fails R S K c.args.r c.args.x pile c.args.search.marks taken ways c.loop-i.i o lt (ap clear (sym way) ∙ sym w.if-is-free.ensures) (moved R S K c.args.r (w.with-givers-pile.ensures.value ∙ ap (λ (cs : List ℕ). piled R S cs pile) (w.cells-of.ensures.value ∙ ap cells_of way)) w.written-marks.ensures (ap (λ (v : Way). bit_or taken v.mask) way) w.in-None.ensures) rest
-      | try-ways-else-is-free w ↦ tries_barred R S K c.args.r c.args.x pile c.args.search.marks taken ways c.loop-i.i o lt (ap clear (sym way) ∙ sym w.if-is-free.ensures) rest
+      | try_ways-then-is_free+in-None w ↦ tries_fails R S K c.args.r c.args.x pile c.args.search.marks taken ways c.loop-i.i o lt (ap clear (sym way) ∙ sym w.if-is_free.ensures) (moved R S K c.args.r (w.with_givers-pile.ensures.value ∙ ap (λ (cs : List ℕ). piled R S cs pile) (w.cells_of.ensures.value ∙ ap cells_of way)) w.written-marks.ensures (ap (λ (v : Way). bit_or taken v.mask) way) w.in-None.ensures) rest
+      | try_ways-else-is_free w ↦ tries_barred R S K c.args.r c.args.x pile c.args.search.marks taken ways c.loop-i.i o lt (ap clear (sym way) ∙ sym w.if-is_free.ensures) rest
     ])
 
 pub try_ways-returns : goal.try_ways-returns

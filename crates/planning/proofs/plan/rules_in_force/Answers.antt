@@ -5,7 +5,7 @@ use Rattle.planning.specs.Plan.{passing}
 use Rattle.planning.proofs.Passing.{passing_on, passing_over, passing_end}
 use Rattle.planning.proofs.LeftOver.{some_flows}
 use Rattle.planning.proofs.plan.rules_in_force.Goals as goal
-use Rattle.planning.proofs.plan.rules_in_force.Goals.{then-is-some, else-is-some}
+use Rattle.planning.proofs.plan.rules_in_force.Goals.{then-is_some, else-is_some}
 
 -- The invariant at the end of a turn, of the list that is left then.
 abbrev Kept : (c : goal.Joined-is_some) → RuleList → Type 0
@@ -23,8 +23,8 @@ loop-x-preserved c =
     let on = passing_on test so_far (passing test 0 64) x 64 c.loop-x.invariant.0 c.loop-x-test.true in
     let over = passing_over test so_far (passing test 0 64) x 64 c.loop-x.invariant.0 c.loop-x-test.true in
     elim c.if-is_some.branch [
-      | then-is-some w ↦ subst (Kept c) (sym w.list-is) (ap (λ xs. xs ++ passing test (x + 1) (64 - (x + 1))) w.with-list.ensures.value ∙ on (sym (w.if-is-some.ensures ∙ some_flows (flow_at rows x))), omega (arith, c.loop-x.invariant.1, w.with-list.ensures.count))
-      | else-is-some w ↦ subst (Kept c) (sym w.list-is) (over (sym (w.if-is-some.ensures ∙ some_flows (flow_at rows x))), omega (arith, c.loop-x.invariant.1))
+      | then-is_some w ↦ subst (Kept c) (sym w.list-is) (ap (λ xs. xs ++ passing test (x + 1) (64 - (x + 1))) w.with-list.ensures.value ∙ on (sym (w.if-is_some.ensures ∙ some_flows (flow_at rows x))), omega (arith, c.loop-x.invariant.1, w.with-list.ensures.count))
+      | else-is_some w ↦ subst (Kept c) (sym w.list-is) (over (sym (w.if-is_some.ensures ∙ some_flows (flow_at rows x))), omega (arith, c.loop-x.invariant.1))
     ]
 
 pub returns : goal.returns

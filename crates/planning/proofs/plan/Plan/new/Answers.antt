@@ -37,7 +37,7 @@ pub returns : goal.returns
 returns c =
     let rows = c.args.rows.now in
     let order = take c.loop-x.order.count c.loop-x.order.numbers in
-    let is-plan : IsPlan rows order = stands_end rows order c.loop-x.left c.loop-x.invariant.0 c.outputs_of.result c.outputs_of.ensures c.in-default.ensures c.loop-x.invariant.2 in
+    let is-plan : IsPlan rows order = stands_end rows order c.loop-x.left c.loop-x.invariant.0 c.outputs_of.result c.outputs_of.ensures c.in_default.ensures c.loop-x.invariant.2 in
     record {
       order = is-plan;
       held = c.rules_in_force.ensures ∙ stands_held rows order c.loop-x.left c.loop-x.invariant.0;

@@ -9,7 +9,6 @@ use figures::ways::{PLACES, SelectedWay, flows};
 use meaning::{Calculator, RULES, read_or};
 use planning::plan::Plan;
 use std::process::Abort;
-use std::test::*;
 
 /// Why a cell is blank whose giver is held.
 const HELD: Option<Cause> = Some(Cause::GiverHeld);
@@ -67,16 +66,15 @@ fn work_out<C: Calculator>(
 }
 
 /// Whether the cells from 0 on are blank for these causes.
-fn are_blank(rt: &impl Abort, blanks: &Blanks, due: &[Option<Cause>]) -> Result<(), Fail> {
+fn are_blank(rt: &impl Abort, blanks: &Blanks, due: &[Option<Cause>]) {
     for (cell, cause) in (0..64u8).zip(due) {
         assert_eq!(rt; blanks.cause(cell), *cause);
     }
-    Ok(())
 }
 
 // Each way gives cell 2.
 #[test]
-fn a_fault_leaves_the_old_entry(rt: HostRuntime) -> Result<(), Fail> {
+fn a_fault_leaves_the_old_entry(rt: HostRuntime) {
     let sum = quantity(SUM, 0, &[0, 1, 2]);
     let unknown = SelectedWay { kind: 9, ..sum };
     let cases = [
@@ -89,14 +87,13 @@ fn a_fault_leaves_the_old_entry(rt: HostRuntime) -> Result<(), Fail> {
         let mut figures = before;
         let blanks = work_out(&Quantities, &[way], &[p], &mut figures);
         assert_eq!(rt; figures, before);
-        are_blank(&rt, &blanks, &[None, None, faulted(fault), None])?;
+        are_blank(&rt, &blanks, &[None, None, faulted(fault), None]);
     }
-    Ok(())
 }
 
 // Rule 0 faults, since its P is 0; rules 1, 2 and 3 are fed from it one after another, and rule 4 is not.
 #[test]
-fn a_blank_spreads(rt: HostRuntime) -> Result<(), Fail> {
+fn a_blank_spreads(rt: HostRuntime) {
     let ways = [
         quantity(PRODUCT, 0, &[0, 1, 2]),
         quantity(SUM, 0, &[2, 0, 3]),
@@ -111,12 +108,12 @@ fn a_blank_spreads(rt: HostRuntime) -> Result<(), Fail> {
         &rt,
         &blanks,
         &[None, None, faulted(3), BEHIND, BEHIND, BEHIND, None],
-    )
+    );
 }
 
 // Rules 0 and 1 feed each other, and rule 2 feeds rule 0.
 #[test]
-fn held_rules_leave_blanks(rt: HostRuntime) -> Result<(), Fail> {
+fn held_rules_leave_blanks(rt: HostRuntime) {
     let ways = [
         quantity(SUM, 0, &[0, 1, 2]),
         quantity(SUM, 0, &[2, 3, 1]),
@@ -125,12 +122,12 @@ fn held_rules_leave_blanks(rt: HostRuntime) -> Result<(), Fail> {
     let mut figures = [5, 6, 7, 8];
     let blanks = work_out(&Quantities, &ways, &[0, 0, 9], &mut figures);
     assert_eq!(rt; figures, [9, 6, 7, 8]);
-    are_blank(&rt, &blanks, &[None, HELD, HELD, None])
+    are_blank(&rt, &blanks, &[None, HELD, HELD, None]);
 }
 
 // The first rule faults and the second gives 3; without rules both cells show what they hold.
 #[test]
-fn a_cell_without_a_giver_keeps_its_entry(rt: HostRuntime) -> Result<(), Fail> {
+fn a_cell_without_a_giver_keeps_its_entry(rt: HostRuntime) {
     let ways = [
         quantity(PRODUCT, 0, &[0, 0, 1]),
         quantity(SUM, 0, &[0, 0, 2]),
@@ -138,14 +135,14 @@ fn a_cell_without_a_giver_keeps_its_entry(rt: HostRuntime) -> Result<(), Fail> {
     let mut figures = [1, 77, 88, 99];
     let blanks = work_out(&Quantities, &ways, &[0, 1], &mut figures);
     assert_eq!(rt; figures, [1, 77, 3, 99], "cell 3 is free from the start");
-    are_blank(&rt, &blanks, &[None, faulted(3), None, None])?;
+    are_blank(&rt, &blanks, &[None, faulted(3), None, None]);
     let blanks = work_out(&Quantities, &[], &[0, 1], &mut figures);
     assert_eq!(rt; figures, [1, 77, 3, 99]);
-    are_blank(&rt, &blanks, &[None, None, None, None])
+    are_blank(&rt, &blanks, &[None, None, None, None]);
 }
 
 #[test]
-fn a_missing_parameter_is_the_start(rt: HostRuntime) -> Result<(), Fail> {
+fn a_missing_parameter_is_the_start(rt: HostRuntime) {
     let ways = [
         quantity(SUM, 0, &[0, 0, 1]),
         quantity(SUM, 0, &[0, 0, 2]),
@@ -154,24 +151,24 @@ fn a_missing_parameter_is_the_start(rt: HostRuntime) -> Result<(), Fail> {
     let mut figures = [4, 0, 0, 9];
     let blanks = work_out(&Quantities, &ways, &[1], &mut figures);
     assert_eq!(rt; figures, [4, 9, 8, 9]);
-    are_blank(&rt, &blanks, &[None, None, None, faulted(3)])
+    are_blank(&rt, &blanks, &[None, None, None, faulted(3)]);
 }
 
 // The table has two cells: rule 0 gives a third, and rule 1 reads it, as the start.
 #[test]
-fn a_short_table_is_safe(rt: HostRuntime) -> Result<(), Fail> {
+fn a_short_table_is_safe(rt: HostRuntime) {
     let ways = [quantity(SUM, 0, &[0, 0, 2]), quantity(SUM, 0, &[2, 0, 1])];
     let mut figures = [4, 5];
     let blanks = work_out(&Quantities, &ways, &[0, 10], &mut figures);
     assert_eq!(rt; figures, [4, 14]);
-    are_blank(&rt, &blanks, &[None, None, None])?;
+    are_blank(&rt, &blanks, &[None, None, None]);
     let blanks = work_out(&Quantities, &ways, &[0, 10], &mut []);
-    are_blank(&rt, &blanks, &[None, None, None])
+    are_blank(&rt, &blanks, &[None, None, None]);
 }
 
 // Rules 0 and 1 give cells that there cannot be, rule 1 by a fault; rule 2 reads such a cell, as the start.
 #[test]
-fn a_cell_from_64_on_is_safe(rt: HostRuntime) -> Result<(), Fail> {
+fn a_cell_from_64_on_is_safe(rt: HostRuntime) {
     let ways = [
         quantity(SUM, 0, &[0, 0, 64]),
         quantity(PRODUCT, 0, &[0, 0, 255]),
@@ -180,15 +177,14 @@ fn a_cell_from_64_on_is_safe(rt: HostRuntime) -> Result<(), Fail> {
     let mut figures = [4, 5];
     let blanks = work_out(&Quantities, &ways, &[0, 0, 10], &mut figures);
     assert_eq!(rt; figures, [4, 14]);
-    are_blank(&rt, &blanks, &[None, None])?;
+    are_blank(&rt, &blanks, &[None, None]);
     assert_eq!(rt; blanks.cause(64), None);
     assert_eq!(rt; blanks.cause(255), None);
-    Ok(())
 }
 
 // Rule 0 enters a card, rule 1 unpacks it, and rule 2 packs the three codes again.
 #[test]
-fn a_card_is_unpacked_and_packed(rt: HostRuntime) -> Result<(), Fail> {
+fn a_card_is_unpacked_and_packed(rt: HostRuntime) {
     let ways = [
         card(cards::ENTRY, 0, &[0]),
         card(PACK, 0, &[0, 1, 2, 3]),
@@ -210,12 +206,12 @@ fn a_card_is_unpacked_and_packed(rt: HostRuntime) -> Result<(), Fail> {
 
 // Rule 0 finds a code where it needs a card; rule 1 is fed from it.
 #[test]
-fn a_code_for_a_card_faults(rt: HostRuntime) -> Result<(), Fail> {
+fn a_code_for_a_card_faults(rt: HostRuntime) {
     let ways = [card(PACK, 0, &[0, 1, 2, 3]), card(PACK, 1, &[4, 1, 2, 3])];
     let before = [CardFigure::Code(8); 5];
     let mut figures = before;
     let blanks = work_out(&Cards, &ways, &[], &mut figures);
     assert_eq!(rt; figures, before);
     let mismatch = faulted(1);
-    are_blank(&rt, &blanks, &[None, mismatch, mismatch, mismatch, BEHIND])
+    are_blank(&rt, &blanks, &[None, mismatch, mismatch, mismatch, BEHIND]);
 }

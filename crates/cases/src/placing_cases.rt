@@ -4,7 +4,7 @@ use placing::board::{Added, Board, Refused};
 use placing::rules::{NO_WAY, RULES, Rule, State, Way};
 use rankings::{Classes, MEDIUM, REQUIRED, STRONG, WEAK};
 use ranks::Ranks;
-use std::test::*;
+use std::process::Abort;
 
 /// A board with the strengths of its rules.
 #[derive(Drop)]
@@ -84,13 +84,12 @@ impl Desk {
     }
 
     /// Whether the rules from the first on are in force by these ways.
-    fn is_by(&self, first: u8, ways: &[u8]) -> Result<(), Fail> {
+    fn is_by(&self, rt: &impl Abort, first: u8, ways: &[u8]) {
         let mut r = first;
         for way in ways {
-            assert_eq!(self.board.state(r), State::InForce(*way));
+            assert_eq!(rt; self.board.state(r), State::InForce(*way));
             r = r.saturating_add(1);
         }
-        Ok(())
     }
 }
 
@@ -108,43 +107,41 @@ const WAITS: Result<Added, Refused> = Ok(Added {
 
 // The last output's giver is on top of the pile, so rule 1 takes cell 2 before rule 0 can.
 #[test]
-fn the_last_giver_is_on_top(rt: HostRuntime) -> Result<(), Fail> {
+fn the_last_giver_is_on_top(rt: HostRuntime) {
     let mut desk = Desk::new();
     assert_eq!(rt; desk.add(0, STRONG, among(one(0), one(2), one(3))), came(0));
     assert_eq!(rt; desk.add(1, STRONG, among(one(1), one(2), one(4))), came(0));
     assert_eq!(rt; desk.add(2, STRONG, only(two(0, 1))), came(2));
-    desk.is_by(0, &[2, 1, 0])
+    desk.is_by(&rt, 0, &[2, 1, 0]);
 }
 
 // A chain of two relations between two entries. The report calls both outcomes as good; the tie rule decides: of the two
 // weak entries the one with the lower number holds, whatever the order of keying.
 #[test]
-fn of_level_entries_the_lower_number_holds(rt: HostRuntime) -> Result<(), Fail> {
+fn of_level_entries_the_lower_number_holds(rt: HostRuntime) {
     let mut desk = Desk::new();
     assert_eq!(rt; desk.add(1, WEAK, only(one(0))), came(0));
     assert_eq!(rt; desk.add(3, MEDIUM, either(one(1), one(2))), came(0));
     assert_eq!(rt; desk.add(4, WEAK, only(one(2))), came(0));
     assert_eq!(rt; desk.add(2, STRONG, either(one(0), one(1))), came(2));
-    desk.is_by(1, &[0, 1, 1])?;
+    desk.is_by(&rt, 1, &[0, 1, 1]);
     assert_eq!(rt; desk.board.state(4), State::Waiting);
-    Ok(())
 }
 
 #[test]
-fn keyed_backward_the_same_rules_hold(rt: HostRuntime) -> Result<(), Fail> {
+fn keyed_backward_the_same_rules_hold(rt: HostRuntime) {
     let mut desk = Desk::new();
     assert_eq!(rt; desk.add(4, WEAK, only(one(2))), came(0));
     assert_eq!(rt; desk.add(3, MEDIUM, either(one(1), one(2))), came(0));
     assert_eq!(rt; desk.add(2, STRONG, either(one(0), one(1))), came(0));
     assert_eq!(rt; desk.add(1, WEAK, only(one(0))), came(3));
-    desk.is_by(1, &[0, 1, 1])?;
+    desk.is_by(&rt, 1, &[0, 1, 1]);
     assert_eq!(rt; desk.board.state(4), State::Waiting);
-    Ok(())
 }
 
 // One of the two entries made stronger: now it holds, though its number is the higher.
 #[test]
-fn a_stronger_entry_holds(rt: HostRuntime) -> Result<(), Fail> {
+fn a_stronger_entry_holds(rt: HostRuntime) {
     let mut desk = Desk::new();
     assert_eq!(rt; desk.add(4, WEAK, only(one(2))), came(0));
     assert_eq!(rt; desk.add(3, MEDIUM, either(one(1), one(2))), came(0));
@@ -152,26 +149,24 @@ fn a_stronger_entry_holds(rt: HostRuntime) -> Result<(), Fail> {
     assert_eq!(rt; desk.add(5, MEDIUM, only(one(0))), came(3));
     assert_eq!(rt; desk.board.state(4), State::Waiting);
     assert_eq!(rt; desk.board.state(5), State::InForce(0));
-    Ok(())
 }
 
 // A method vine that branches: a way with two outputs displaces two rules, one of which displaces a weaker one.
 #[test]
-fn a_vine_branches_and_puts_out_a_weaker_rule(rt: HostRuntime) -> Result<(), Fail> {
+fn a_vine_branches_and_puts_out_a_weaker_rule(rt: HostRuntime) {
     let mut desk = Desk::new();
     assert_eq!(rt; desk.add(2, STRONG, either(one(0), two(1, 2))), came(0));
     assert_eq!(rt; desk.add(3, STRONG, among(one(2), one(1), one(3))), came(0));
     assert_eq!(rt; desk.add(4, STRONG, either(one(1), one(4))), came(0));
     assert_eq!(rt; desk.add(5, WEAK, only(one(3))), came(0));
     assert_eq!(rt; desk.add(1, STRONG, only(one(0))), came(4));
-    desk.is_by(1, &[0, 1, 2, 1])?;
+    desk.is_by(&rt, 1, &[0, 1, 2, 1]);
     assert_eq!(rt; desk.board.state(5), State::Waiting);
-    Ok(())
 }
 
 // A vine that has to go back: the first other way of rule 3 leaves none for rule 5.
 #[test]
-fn a_vine_goes_back(rt: HostRuntime) -> Result<(), Fail> {
+fn a_vine_goes_back(rt: HostRuntime) {
     let mut desk = Desk::new();
     assert_eq!(rt; desk.add(2, REQUIRED, either(one(0), one(2))), came(0));
     assert_eq!(rt;
@@ -181,12 +176,12 @@ fn a_vine_goes_back(rt: HostRuntime) -> Result<(), Fail> {
     assert_eq!(rt; desk.add(4, REQUIRED, either(one(1), one(5))), came(0));
     assert_eq!(rt; desk.add(5, REQUIRED, either(one(5), one(3))), came(0));
     assert_eq!(rt; desk.add(1, REQUIRED, only(two(1, 0))), came(4));
-    desk.is_by(1, &[0, 1, 2, 1, 1])
+    desk.is_by(&rt, 1, &[0, 1, 2, 1, 1]);
 }
 
 // Of two required rules that clash one waits, and comes in force once the other is removed.
 #[test]
-fn a_waiting_rule_comes_back(rt: HostRuntime) -> Result<(), Fail> {
+fn a_waiting_rule_comes_back(rt: HostRuntime) {
     let mut desk = Desk::new();
     assert_eq!(rt; desk.add(0, REQUIRED, only(one(7))), came(0));
     assert_eq!(rt; desk.add(1, REQUIRED, only(one(7))), WAITS);
@@ -194,12 +189,11 @@ fn a_waiting_rule_comes_back(rt: HostRuntime) -> Result<(), Fail> {
     assert_eq!(rt; desk.board.state(0), State::Absent);
     assert_eq!(rt; desk.board.state(1), State::InForce(0));
     assert_eq!(rt; desk.remove(1), Ok(0));
-    Ok(())
 }
 
 // The seven rules of a reel: with the weight entered the length is worked out; without the entered width, the width.
 #[test]
-fn seven_rules_of_a_reel(rt: HostRuntime) -> Result<(), Fail> {
+fn seven_rules_of_a_reel(rt: HostRuntime) {
     let mut desk = Desk::new();
     assert_eq!(rt;
         desk.add(0, REQUIRED, among(one(2), one(0), one(1))),
@@ -211,16 +205,15 @@ fn seven_rules_of_a_reel(rt: HostRuntime) -> Result<(), Fail> {
     assert_eq!(rt; desk.add(4, STRONG, only(one(0))), came(0));
     assert_eq!(rt; desk.add(5, MEDIUM, only(one(1))), came(0));
     assert_eq!(rt; desk.add(6, STRONG, only(one(4))), came(3));
-    desk.is_by(0, &[2, 1, 0, 0, 0])?;
+    desk.is_by(&rt, 0, &[2, 1, 0, 0, 0]);
     assert_eq!(rt; desk.board.state(5), State::Waiting);
     assert_eq!(rt; desk.remove(4), Ok(2));
     assert_eq!(rt; desk.board.state(0), State::InForce(1));
     assert_eq!(rt; desk.board.state(5), State::InForce(0));
-    Ok(())
 }
 
 #[test]
-fn calls_refuse_in_order(rt: HostRuntime) -> Result<(), Fail> {
+fn calls_refuse_in_order(rt: HostRuntime) {
     let mut desk = Desk::new();
     let bad = Way { mask: 1, ..one(5) };
     assert_eq!(rt; desk.add(64, STRONG, only(bad)), Err(Refused::Number));
@@ -240,5 +233,4 @@ fn calls_refuse_in_order(rt: HostRuntime) -> Result<(), Fail> {
     assert_eq!(rt; desk.remove(64), Err(Refused::Number));
     assert_eq!(rt; desk.remove(1), Err(Refused::Absent));
     assert_eq!(rt; desk.board.state(0), State::InForce(0));
-    Ok(())
 }

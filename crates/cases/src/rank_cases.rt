@@ -3,43 +3,41 @@
 use rankings::{Classes, Dated, DatedStrength, MEDIUM, REQUIRED, STRONG, WEAK};
 use ranks::Ranks;
 use std::process::Abort;
-use std::test::*;
 
 /// Whether the rules from 0 on have these ranks.
-fn are(rt: &impl Abort, ranks: &Ranks, due: &[u8]) -> Result<(), Fail> {
+fn are(rt: &impl Abort, ranks: &Ranks, due: &[u8]) {
     for (rank, wanted) in ranks.numbers().iter().zip(due) {
         assert_eq!(rt; *rank, *wanted);
     }
-    Ok(())
 }
 
 #[test]
-fn level_rules_go_by_number(rt: HostRuntime) -> Result<(), Fail> {
+fn level_rules_go_by_number(rt: HostRuntime) {
     let classes = [STRONG, REQUIRED, STRONG, WEAK, MEDIUM];
     are(
         &rt,
         &Ranks::new(&Classes, &classes, 0b11111),
         &[1, 0, 2, 4, 3, 5],
-    )
+    );
 }
 
 #[test]
-fn unknown_absent_and_missing_come_last(rt: HostRuntime) -> Result<(), Fail> {
+fn unknown_absent_and_missing_come_last(rt: HostRuntime) {
     are(
         &rt,
         &Ranks::new(&Classes, &[WEAK, 9, REQUIRED], 0b111),
         &[1, 2, 0, 3],
-    )?;
+    );
     are(
         &rt,
         &Ranks::new(&Classes, &[WEAK, WEAK, REQUIRED], 0b011),
         &[0, 1, 2, 3],
-    )?;
-    are(&rt, &Ranks::new(&Classes, &[], u64::MAX), &[0, 1, 2, 3, 4])
+    );
+    are(&rt, &Ranks::new(&Classes, &[], u64::MAX), &[0, 1, 2, 3, 4]);
 }
 
 #[test]
-fn an_earlier_day_ranks_before_a_stronger_class(rt: HostRuntime) -> Result<(), Fail> {
+fn an_earlier_day_ranks_before_a_stronger_class(rt: HostRuntime) {
     let late = DatedStrength {
         day: 9,
         class: REQUIRED,
@@ -52,5 +50,5 @@ fn an_earlier_day_ranks_before_a_stronger_class(rt: HostRuntime) -> Result<(), F
         &rt,
         &Ranks::new(&Dated, &[late, early, late], 0b111),
         &[1, 0, 2],
-    )
+    );
 }

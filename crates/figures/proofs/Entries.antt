@@ -1,5 +1,5 @@
 -- What working a way out leaves at each cell.
-use Rattle.std.proofs.Common.{◌≡◌, ℕ, zero, suc, ◌+◌, ◌<◌, ◌≤◌, Bool, true, false, cond, not, ◌&&◌, ◌||◌, ltb, List, [], ◌∷◌, map, length, get_or, set, Some, None, Ok, Err, Option, Result, sym, refl, ap, ◌∙◌, subst, ⊎_elim, arith, length-set, get_or-set_other, get_or-set_same}
+use Rattle.std.proofs.Common.{◌≡◌, ℕ, zero, suc, ◌+◌, ◌<◌, Bool, true, false, cond, not, ◌&&◌, ◌||◌, ltb, List, [], ◌∷◌, map, length, get_or, set, Some, None, Ok, Err, Option, Result, sym, refl, ap, ◌∙◌, ⊎_elim, arith, length-set, get_or-set_other, get_or-set_same}
 use Rattle.std.proofs.lemmas.Bool.{both_ways, cases_Bool, cond_both, cond-true, cond-false}
 use Rattle.meaning.specs.declared.Fault.{Fault}
 use Rattle.meaning.specs.Masks.{bit}
@@ -7,10 +7,10 @@ use Rattle.meaning.specs.Calc.{Answer, gives, faults, Calc, inputs_from, figure_
 use Rattle.figures.specs.declared.ways.SelectedWay.{SelectedWay}
 use Rattle.figures.specs.declared.blanks.Cause.{Cause}
 use Rattle.figures.specs.declared.blanks.Cause.TheVariants.{Faulted, InputBlank}
-use Rattle.figures.specs.Ways.{places_of, Names, Output, Input}
+use Rattle.figures.specs.Ways.{places_of, Output, Input}
 use Rattle.figures.specs.Blanks.{cause_at, caused, is_blank}
 use Rattle.figures.specs.Update.{Table, told_to, blanked, asked_at, asked, blank_from, has_blank_input, worked_out}
-use Rattle.figures.specs.Laws.{Fits, Shown, figure, blank, shown_by, shows, answered, made}
+use Rattle.figures.specs.Laws.{Fits, Shown, figure, blank, answered, made}
 use Rattle.figures.proofs.Naming.{NamesFrom, here, there, names_from, from_names}
 use Rattle.figures.proofs.EachOutput.{each_other, each_at}
 

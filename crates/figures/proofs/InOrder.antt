@@ -11,8 +11,7 @@ use Rattle.figures.specs.declared.ways.SelectedWay.{SelectedWay}
 use Rattle.figures.specs.Ways.{InForceBy, Names, Output, flows_of}
 use Rattle.figures.specs.Laws.{Fits}
 use Rattle.figures.proofs.Naming.{gives_output, reads_input}
-use Rattle.figures.proofs.Holding.{NoneGives}
-use Rattle.figures.proofs.Turning.{Undisturbed, InOrder}
+use Rattle.figures.proofs.Turning.{InOrder}
 
 module _ {F : Type 0} (m : Calc F) (n : ℕ) (few : n ≤ 64) (rows : List (Option SelectedWay)) (fit : (x : ℕ) (w : SelectedWay) → InForceBy rows x w → Fits m n w) (one : NoTwoGivers (flows_of rows)) where
   -- A rule that gives a cell of a ready rule is planned or is that rule: it gives an input, or the cell would have two givers.

@@ -4,16 +4,15 @@ use Rattle.std.proofs.lemmas.List.{get_or_default, get_or_past, get_or-replicate
 use Rattle.std.proofs.lemmas.Bool.{both_ways, cases_lt}
 use Rattle.meaning.specs.Lists.{is_on}
 use Rattle.meaning.specs.Calc.{Calc, CalcLaws}
-use Rattle.planning.specs.Plan.{held_rules}
 use Rattle.planning.proofs.Lawful.{plans_are_lawful}
 use Rattle.planning.proofs.Held.{held_are_rings}
 use Rattle.figures.specs.declared.ways.SelectedWay.{SelectedWay}
 use Rattle.figures.specs.declared.blanks.Cause.{Cause}
 use Rattle.figures.specs.declared.blanks.Cause.TheVariants.{GiverHeld}
 use Rattle.figures.specs.Ways.{InForceBy, Output, flows_of}
-use Rattle.figures.specs.Blanks.{cause_at, is_blank}
+use Rattle.figures.specs.Blanks.{cause_at}
 use Rattle.figures.specs.Update.{Table, holds, updated}
-use Rattle.figures.specs.Laws.{Planned, Free, UpdateLaws, UpdateIsLawful, AllTaken, ParametersTaken}
+use Rattle.figures.specs.Laws.{Planned, Free, UpdateLaws, UpdateIsLawful}
 use Rattle.figures.proofs.Naming.{gives_output}
 use Rattle.figures.proofs.Entries.{Entry, entry, Marked}
 use Rattle.figures.proofs.Holding.{NoneGives, holds_other, holds_length, holds_at}

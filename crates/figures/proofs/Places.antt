@@ -1,9 +1,8 @@
 -- Going through the places of a way one by one.
-use Rattle.std.proofs.Common.{◌≡◌, ℕ, suc, ◌+◌, ◌<◌, ◌≤◌, Bool, true, false, cond, not, ◌&&◌, ◌||◌, List, [], ◌∷◌, length, get_or, drop, Option, sym, refl, ap, ◌∙◌, add-one}
+use Rattle.std.proofs.Common.{◌≡◌, ℕ, suc, ◌+◌, ◌<◌, ◌≤◌, Bool, true, false, cond, not, ◌&&◌, ◌||◌, List, ◌∷◌, length, get_or, drop, Option, sym, ap, ◌∙◌, add-one}
 use Rattle.std.proofs.lemmas.List.{drop_more, drop_all}
 use Rattle.std.proofs.lemmas.Bool.{or_left}
 use Rattle.meaning.specs.Masks.{bit}
-use Rattle.planning.specs.declared.flows.Flow.{Flow}
 use Rattle.figures.specs.declared.blanks.Cause.{Cause}
 use Rattle.figures.specs.Ways.{with_cell, flow_from}
 use Rattle.figures.specs.Blanks.{is_blank}

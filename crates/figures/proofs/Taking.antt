@@ -1,15 +1,15 @@
 -- Every figure stays one that the calculator takes.
-use Rattle.std.proofs.Common.{◌≡◌, ℕ, ◌<◌, ◌≤◌, true, false, eqb, ltb, List, [], ◌∷◌, length, get_or, Some, None, Option, sym, refl, ap, ◌∙◌, subst, ⊎_elim, arith}
+use Rattle.std.proofs.Common.{◌≡◌, ℕ, true, eqb, ltb, List, [], ◌∷◌, length, get_or, Option, sym, refl, ap, ◌∙◌, subst, ⊎_elim, arith}
 use Rattle.std.proofs.lemmas.Bool.{cases_Bool, cond_both, cond-true, cond-false, ltb-true, or_left, or_right, eq-eqb}
 use Rattle.meaning.specs.Lists.{is_on}
 use Rattle.meaning.specs.Calc.{Answer, gives, faults, Calc, CalcLaws, Proper, figure_at, input_figures}
 use Rattle.meaning.proofs.Taken.{answer_proper}
 use Rattle.figures.specs.declared.ways.SelectedWay.{SelectedWay}
 use Rattle.figures.specs.Ways.{places_of, InForceBy, Output}
-use Rattle.figures.specs.Update.{Table, has_blank_input, worked_out, turn, turns}
+use Rattle.figures.specs.Update.{Table, has_blank_input, turn, turns}
 use Rattle.figures.specs.Laws.{Fits, Shown, figure, blank, answered, made, AllTaken, ParametersTaken}
 use Rattle.figures.proofs.Entries.{Entry, entry, landed, worked_at}
-use Rattle.figures.proofs.Turning.{Wide, behind, wide_behind, output_below, given_or_kept}
+use Rattle.figures.proofs.Turning.{Wide, behind, wide_behind, given_or_kept}
 
 module _ {F : Type 0} (m : Calc F) (laws : CalcLaws m) where
   abbrev Takes : F → Type 0

@@ -1,4 +1,4 @@
-use Rattle.std.proofs.Common.{◌≡◌, ℕ, ◌+◌, List, drop, sym, ap, ◌∙◌}
+use Rattle.std.proofs.Common.{ℕ, ◌+◌, List, drop, sym, ap, ◌∙◌}
 use Rattle.figures.specs.Update.{asked_at, each_output}
 use Rattle.figures.proofs.Places.{each_more, each_end}
 use Rattle.figures.proofs.update.ask_outputs.Goals as goal

@@ -1,4 +1,4 @@
-use Rattle.std.proofs.Common.{◌≡◌, ℕ, ◌+◌, List, get_or, drop, set, Some, Option, sym, ap, ◌∙◌}
+use Rattle.std.proofs.Common.{ℕ, ◌+◌, List, drop, set, Some, Option, sym, ap, ◌∙◌}
 use Rattle.figures.specs.declared.blanks.Cause.{Cause}
 use Rattle.figures.specs.Update.{each_output}
 use Rattle.figures.proofs.Places.{each_more, each_end}

@@ -1,4 +1,4 @@
-use Rattle.std.proofs.Common.{◌≡◌, ℕ, List, sym, ap, ◌∙◌}
+use Rattle.std.proofs.Common.{ℕ, List, sym, ap, ◌∙◌}
 use Rattle.figures.specs.Update.{blank_from}
 use Rattle.figures.proofs.Places.{blank_here, blank_on, blank_end}
 use Rattle.figures.proofs.update.has_blank_input.Goals as goal

@@ -1,6 +1,5 @@
-use Rattle.std.proofs.Common.{◌≡◌, ℕ, ◌+◌, List, get_or, drop, None, Option, sym, ap, ◌∙◌}
+use Rattle.std.proofs.Common.{ℕ, ◌+◌, List, get_or, drop, None, Option, sym, ap, ◌∙◌}
 use Rattle.std.proofs.lemmas.List.{at_drop_more, at_drop_all}
-use Rattle.figures.specs.declared.blanks.Cause.{Cause}
 use Rattle.figures.specs.declared.ways.SelectedWay.{SelectedWay}
 use Rattle.figures.specs.Update.{held_by, holds}
 use Rattle.figures.proofs.update.hold_all.Goals as goal

@@ -1,7 +1,6 @@
-use Rattle.std.proofs.Common.{◌≡◌, ℕ, ◌+◌, ◌-◌, ◌^◌, cond, List, ◌∷◌, get_or, drop, sym, ap, ◌∙◌, add-one, arith}
+use Rattle.std.proofs.Common.{◌≡◌, ℕ, ◌+◌, ◌-◌, ◌^◌, cond, drop, sym, ap, ◌∙◌, add-one, arith}
 use lib.Bits.{bit_or, or_comm}
 use Rattle.std.proofs.lemmas.List.{drop_more, drop_all}
-use Rattle.placing.specs.declared.rules.State.{State}
 use Rattle.placing.specs.Board.{state_of, is_standing, standing_from}
 use Rattle.placing.specs.declared.rules.State.TheVariants.{Absent}
 use Rattle.placing.proofs.calls.standing_in.Goals as goal

@@ -1,6 +1,5 @@
-use Rattle.std.proofs.Common.{◌≡◌, ℕ, ◌+◌, ◌-◌, ◌<◌, Bool, length, get_or, drop, sym, ap, ◌∙◌, arith}
+use Rattle.std.proofs.Common.{◌≡◌, ℕ, ◌+◌, ◌-◌, Bool, get_or, drop, sym, ap, ◌∙◌, arith}
 use Rattle.meaning.specs.Masks.{bit}
-use Rattle.planning.specs.declared.flows.Flow.{Flow}
 use Rattle.figures.specs.Ways.{with_cell, flow_from}
 use Rattle.figures.proofs.Places.{flow_more, flow_end}
 use Rattle.figures.proofs.ways.SelectedWay.flow.Goals as goal

@@ -1,7 +1,7 @@
 -- The card calculator keeps the laws: from codes within range come codes within range.
 use Rattle.std.specs.Prelude.{◌≡◌, ℕ, zero, suc, true, ◌&&◌, List, slice_index_or, refl}
 use Rattle.std.proofs.Common.{arith}
-use Rattle.std.specs.List.{AllByRecursion as All}
+use Rattle.std.specs.List.{AllByRecursion}
 use Rattle.std.proofs.lemmas.Bool.{and_parts, and_from}
 use Rattle.meaning.specs.Calc.{CalcLaws, Proper}
 use Rattle.meaning.proofs.Lists.{all_read}
@@ -37,7 +37,7 @@ pack_proper kind way (Code furnish) (Code coat) (Card x y z) f c k = omega arith
 pack_proper kind way (Code furnish) (Card x y z) core f c k = omega arith
 pack_proper kind way (Card x y z) coat core f c k = omega arith
 
-answer_proper : (kind way : ℕ) (p : CardFigure) (xs : List CardFigure) → Taken p → All Taken xs → Proper cards kind way (card_answer kind way p xs)
+answer_proper : (kind way : ℕ) (p : CardFigure) (xs : List CardFigure) → Taken p → AllByRecursion Taken xs → Proper cards kind way (card_answer kind way p xs)
 answer_proper zero zero p xs tp all = λ place _. tp
 answer_proper zero (suc way) p xs tp all = omega arith
 answer_proper (suc zero) zero p xs tp all = unpack_proper 1 0 (slice_index_or xs 0 (Code 0)) (all_read Taken xs 0 (Code 0) all refl)

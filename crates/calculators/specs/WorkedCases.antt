@@ -1,6 +1,6 @@
 -- Worked cases of the quantity calculator, as one table over its definition.
 use Rattle.std.specs.Prelude.{◌≡◌, ℕ, List, [], ◌∷◌, ℤ, pos, neg_ℤ}
-use Rattle.std.specs.List.{AllByRecursion as All}
+use Rattle.std.specs.List.{AllByRecursion}
 use Rattle.meaning.specs.Calc.{Answer, gives, faults}
 use Rattle.calculators.specs.Quantities.{quantities}
 
@@ -58,4 +58,4 @@ worked_cases =
 
 -- The quantity calculator answers each case as is due.
 abbrev pub CasesHold : Type 0
-CasesHold = All (λ c. quantities.answer c.kind c.way c.p c.inputs ≡ c.due) worked_cases
+CasesHold = AllByRecursion (λ c. quantities.answer c.kind c.way c.p c.inputs ≡ c.due) worked_cases

@@ -1,7 +1,7 @@
 -- Over a table of taken figures, every figure that a lawful calculator tells of an output is taken.
 use Rattle.std.proofs.Common.{◌≡◌, ℕ, ◌<◌, true, ltb, List, [], ◌∷◌, length, get_or, Ok, subst, arith}
 use lib.ListN.{length-map}
-use Rattle.std.specs.List.{AllByRecursion as All}
+use Rattle.std.specs.List.{AllByRecursion}
 use Rattle.std.proofs.ByRecursion.{All-map}
 use Rattle.std.proofs.lemmas.Bool.{cond_both}
 use Rattle.meaning.proofs.Lists.{all_read}
@@ -12,16 +12,16 @@ module _ {F : Type 0} (m : Calc F) (laws : CalcLaws m) where
   Takes x = m.takes x ≡ true
 
   -- The figure at any place of a taken table is taken.
-  figure_taken : (table : List F) (places : List ℕ) (i : ℕ) → All Takes table → Takes (figure_at m.start table places i)
+  figure_taken : (table : List F) (places : List ℕ) (i : ℕ) → AllByRecursion Takes table → Takes (figure_at m.start table places i)
   figure_taken table places i all =
       cond_both (ltb i (length places)) _ _ Takes (λ _. all_read Takes table (get_or places i 0) m.start all laws.start_taken) (λ _. laws.start_taken)
 
   -- The figures of the inputs are taken, if the figure at every place is.
-  every_figure_taken : (table : List F) (places is : List ℕ) → ((i : ℕ) → Takes (figure_at m.start table places i)) → All (λ i. Takes (figure_at m.start table places i)) is
+  every_figure_taken : (table : List F) (places is : List ℕ) → ((i : ℕ) → Takes (figure_at m.start table places i)) → AllByRecursion (λ i. Takes (figure_at m.start table places i)) is
   every_figure_taken table places [] all = tt
   every_figure_taken table places (i ∷ is) all = (all i, every_figure_taken table places is all)
 
-  inputs_taken : (kind way : ℕ) (table : List F) (places : List ℕ) → ((i : ℕ) → Takes (figure_at m.start table places i)) → All Takes (input_figures m kind way table places)
+  inputs_taken : (kind way : ℕ) (table : List F) (places : List ℕ) → ((i : ℕ) → Takes (figure_at m.start table places i)) → AllByRecursion Takes (input_figures m kind way table places)
   inputs_taken kind way table places all =
       All-map Takes (figure_at m.start table places) (input_places m kind way) (every_figure_taken table places (input_places m kind way) all)
 
@@ -34,6 +34,6 @@ module _ {F : Type 0} (m : Calc F) (laws : CalcLaws m) where
   told_taken kind way place x (faults n) proper out e = let z : ◌≡◌ {A = ℕ} 0 1 = cc in absurd (omega arith)
 
   -- What is told of an output is taken, if P and the table's figures are.
-  pub tells_taken : (kind way place : ℕ) (p x : F) (table : List F) (places : List ℕ) → kind < m.kinds → way < m.ways kind → m.takes p ≡ true → All Takes table → m.output kind way place ≡ true → tells m kind way p table places place ≡ Ok x → Takes x
+  pub tells_taken : (kind way place : ℕ) (p x : F) (table : List F) (places : List ℕ) → kind < m.kinds → way < m.ways kind → m.takes p ≡ true → AllByRecursion Takes table → m.output kind way place ≡ true → tells m kind way p table places place ≡ Ok x → Takes x
   tells_taken kind way place p x table places k w tp all out e =
       told_taken kind way place x _ (answer_proper kind way p table places k w tp (λ i. figure_taken table places i all)) out e

@@ -1,6 +1,6 @@
 -- What a calculator means, what it reads of a lent table, and the laws that such a meaning keeps.
 use Rattle.std.specs.Prelude.{◌≡◌, ℕ, zero, suc, ◌<◌, ◌≤◌, Bool, true, cond, List, [], ◌∷◌, map, length, Ok, Err, Result, nat_lt, slice_index, slice_index_or}
-use Rattle.std.specs.List.{AllByRecursion as All}
+use Rattle.std.specs.List.{AllByRecursion}
 use Rattle.meaning.specs.declared.Fault.{Fault}
 
 -- What a way makes of its inputs: a figure for each output, by its place, or one fault for the whole way.
@@ -63,4 +63,4 @@ pub record KindLaws {F : Type 0} (m : Calc F) (kind : ℕ) : Type 0 where
 pub record CalcLaws {F : Type 0} (m : Calc F) : Type 0 where
   pub start_taken : m.takes m.start ≡ true
   pub shaped : (kind : ℕ) → kind < m.kinds → KindLaws m kind
-  pub proper : (kind way : ℕ) (p : F) (xs : List F) → kind < m.kinds → way < m.ways kind → m.takes p ≡ true → All (λ x. m.takes x ≡ true) xs → length xs ≡ length (input_places m kind way) → Proper m kind way (m.answer kind way p xs)
+  pub proper : (kind way : ℕ) (p : F) (xs : List F) → kind < m.kinds → way < m.ways kind → m.takes p ≡ true → AllByRecursion (λ x. m.takes x ≡ true) xs → length xs ≡ length (input_places m kind way) → Proper m kind way (m.answer kind way p xs)

@@ -1,7 +1,7 @@
 //! Generic code is proved from the meaning alone: for every ranking, and for every calculator.
 
 ghost use Rattle.std.specs.Prelude.{◌≡◌, true};
-ghost use Rattle.std.specs.List.{AllByRecursion as All};
+ghost use Rattle.std.specs.List.{AllByRecursion};
 ghost use Rattle.meaning.specs.Ranks.{not_after};
 ghost use Rattle.meaning.specs.Extremes.{all_level, always_faulting};
 ghost use Rattle.std.proofs.Common.{rules};
@@ -31,7 +31,7 @@ fn worked_out_or_start<C: Calculator>(
     places: &[u8],
     output: u8,
 ) -> C::Figure
-    requires { All (λ x. (C.meaning calculator.now).takes x ≡ true) table.now }
+    requires { AllByRecursion (λ x. (C.meaning calculator.now).takes x ≡ true) table.now }
     ensures { (C.meaning calculator.now).takes result ≡ true }
 {
     if kind >= calculator.kind_count() || way >= calculator.way_count(kind) {

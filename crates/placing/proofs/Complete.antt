@@ -2,7 +2,7 @@
 -- rules in force that rank before it.
 use Rattle.std.proofs.Common.{◌≡◌, ℕ, ◌≤◌, true, false, ltb, ◌⊎◌, List, drop, set, None, Option, sym, refl, subst, inl, inr, ⊎_elim, arith}
 use lib.Bits.{bit_or}
-use Rattle.std.specs.List.{AllByRecursion as All}
+use Rattle.std.specs.List.{AllByRecursion}
 use Rattle.std.proofs.lemmas.Bool.{both_ways, cases_eq, eq-eqb, ltb-false}
 use Rattle.meaning.proofs.MaskBits.{apart_or}
 use Rattle.placing.specs.declared.rules.Way.{Way}
@@ -45,13 +45,13 @@ module _ (rules : List Rule) (states : List State) (rank : ℕ → ℕ) (r : ℕ
       apart_or taken (way_mask rules x i) (way_mask rules y (pick y)) (clear y sy before.0) shared
 
   mutual
-    pub leads_complete : {pile : List ℕ} {marks : List Mark} {taken : ℕ} {o : Option (List Mark)} → Leads rules states rank r pile marks taken o → o ≡ None → All Piled pile → Clear marks taken → ⊥
+    pub leads_complete : {pile : List ℕ} {marks : List Mark} {taken : ℕ} {o : Option (List Mark)} → Leads rules states rank r pile marks taken o → o ≡ None → AllByRecursion Piled pile → Clear marks taken → ⊥
     leads_complete Leads.empty e all clear = let z : ◌≡◌ {A = ℕ} 0 1 = cc in omega arith
     leads_complete (Leads.over d a) e all clear = leads_complete a e all.1 clear
     leads_complete {marks = marks} {taken = taken} (Leads.out {x = x} d f a) e all clear = leads_complete a e all.1 (clear_put_out marks taken x clear)
     leads_complete (Leads.try {x = x} d f t) e all clear = tries_complete t e refl (in_set x all.0 f) d (omega arith) all.1 clear
 
-    tries_complete : {x : ℕ} {pile : List ℕ} {marks : List Mark} {taken : ℕ} {ways : List Way} {i : ℕ} {o : Option (List Mark)} → Tries rules states rank r x pile marks taken ways i o → o ≡ None → drop i (listed rules x) ≡ ways → InSet x → fresh_at marks x ≡ true → i ≤ pick x → All Piled pile → Clear marks taken → ⊥
+    tries_complete : {x : ℕ} {pile : List ℕ} {marks : List Mark} {taken : ℕ} {ways : List Way} {i : ℕ} {o : Option (List Mark)} → Tries rules states rank r x pile marks taken ways i o → o ≡ None → drop i (listed rules x) ≡ ways → InSet x → fresh_at marks x ≡ true → i ≤ pick x → AllByRecursion Piled pile → Clear marks taken → ⊥
     tries_complete {x} {i = i} Tries.spent e at s f le all clear = omega (arith, drop_none (listed rules x) i at, choice.on_list x s)
     tries_complete {x} {taken = taken} {i = i} (Tries.barred {way = way} {ways = ways} b t) e at s f le all clear =
         let front = drop_front (listed rules x) i no_way way ways at in

@@ -1,6 +1,6 @@
 -- Who gives a cell, and what the givers of a way's outputs put on the pile.
 use Rattle.std.proofs.Common.{◌≡◌, ℕ, zero, suc, ◌+◌, ◌-◌, ◌^◌, ◌<◌, ◌≤◌, true, false, ◌⊎◌, List, [], ◌∷◌, ◌++◌, length, get_or, drop, sym, refl, ap, ◌∙◌, subst, inl, inr, ⊎_elim, add-one, arith}
-use Rattle.std.specs.List.{AllByRecursion as All}
+use Rattle.std.specs.List.{AllByRecursion}
 use Rattle.std.proofs.lemmas.List.{drop_more, drop_all}
 use Rattle.std.proofs.ByRecursion.{All-append}
 use Rattle.std.proofs.lemmas.Bool.{cond_both, cond-true, cond-false, cases_eq, or_cases, both_ways}
@@ -22,19 +22,19 @@ module _ (rules : List Rule) (states : List State) where
   abbrev pub InForceAt : ℕ → Type 0
   InForceAt x = is_in_force (state_of states x) ≡ true
 
-  giver_in_force : (c x n : ℕ) → All InForceAt (giver_from rules states c x n)
+  giver_in_force : (c x n : ℕ) → AllByRecursion InForceAt (giver_from rules states c x n)
   unfolding giver_from
   giver_in_force c x zero = tt
   giver_in_force c x (suc n) =
-      cond_both (bit (gives rules states x) c) _ _ (All InForceAt) (λ h. (giving_state rules x (state_of states x) c h, tt)) (λ _. giver_in_force c (suc x) n)
+      cond_both (bit (gives rules states x) c) _ _ (AllByRecursion InForceAt) (λ h. (giving_state rules x (state_of states x) c h, tt)) (λ _. giver_in_force c (suc x) n)
 
   -- Whatever holds of the pile and of each rule in force holds of the pile with givers on it.
-  pub piled_all : (P : ℕ → Type 0) → ((x : ℕ) → InForceAt x → P x) → (cs pile : List ℕ) → All P pile → All P (piled rules states cs pile)
+  pub piled_all : (P : ℕ → Type 0) → ((x : ℕ) → InForceAt x → P x) → (cs pile : List ℕ) → AllByRecursion P pile → AllByRecursion P (piled rules states cs pile)
   piled_all P each [] pile all = all
   piled_all P each (c ∷ cs) pile all =
       piled_all P each cs (giver rules states c ++ pile) (All-append P (giver rules states c) pile (all_each (giver rules states c) (giver_in_force c 0 64)) all)
     where
-      all_each : (xs : List ℕ) → All InForceAt xs → All P xs
+      all_each : (xs : List ℕ) → AllByRecursion InForceAt xs → AllByRecursion P xs
       all_each [] h = tt
       all_each (x ∷ xs) h = (each x h.0, all_each xs h.1)
 

@@ -1,7 +1,7 @@
 -- What a search keeps from step to step, and so what a success leaves.
 use Rattle.std.proofs.Common.{◌≡◌, ℕ, ◌<◌, true, false, ltb, ◌⊎◌, List, [], ◌∷◌, length, get_or, drop, set, Some, Option, sym, refl, ap, ◌∙◌, subst, inl, inr, ⊎_elim, arith, length-set}
 use lib.Bits.{bit_and, bit_or, and_comm}
-use Rattle.std.specs.List.{AllByRecursion as All}
+use Rattle.std.specs.List.{AllByRecursion}
 use Rattle.std.proofs.lemmas.Bool.{both_ways, cases_eq, eqb-true, ltb-true}
 use Rattle.meaning.specs.Masks.{bit}
 use Rattle.meaning.proofs.MaskBits.{apart_or, apart_left, apart_right, common_bit}
@@ -45,7 +45,7 @@ module _ (rules : List Rule) (states : List State) (rank : ℕ → ℕ) (r : ℕ
     pub fresh_apart : (x : ℕ) → fresh_at marks x ≡ true → InForceAt rules states x → Apart taken (gives rules states x) ⊎ On x pile
     pub placed_on : fresh_at marks r ≡ true → On r pile
     pub put_out_after : (x : ℕ) → x < 64 → get_or marks x PutOut ≡ PutOut → (rank r < rank x) × InForceAt rules states x
-    pub piled_from : All Piled pile
+    pub piled_from : AllByRecursion Piled pile
 
   -- Passing over a rule that is done.
   kept_over : {x : ℕ} {pile : List ℕ} {marks : List Mark} {taken : ℕ} → fresh_at marks x ≡ false → Kept (x ∷ pile) marks taken → Kept pile marks taken

@@ -1,7 +1,7 @@
 //! A rule record as the caller hands it.
 
-ghost use Rattle.std.specs.Prelude.{◌≡◌};
-ghost use Rattle.records.specs.Records.{recorded};
+ghost use Rattle.std.specs.Prelude.{◌≡◌, length, min};
+ghost use Rattle.records.specs.Records.{padded, recorded};
 
 use meaning::{PLACES, WAYS, read_or};
 
@@ -33,23 +33,33 @@ impl<S: Copy, F: Copy> Record<S, F> {
     ) -> Record<S, F>
         ensures { result ≡ recorded number kind places.now ways.now strength parameter }
     {
-        let mut kept = [0; PLACES];
-        for i in 0..PLACES {
-            kept[i] = read_or(places, i, 0);
-        }
-        let mut listed = [0; WAYS];
-        for i in 0..WAYS {
-            listed[i] = read_or(ways, i, 0);
-        }
         Record {
             number,
             kind,
-            places: kept,
-            place_count: places.len().min(255) as u8,
-            ways: listed,
-            way_count: ways.len().min(255) as u8,
+            places: kept(places),
+            place_count: count_of(places),
+            ways: kept(ways),
+            way_count: count_of(ways),
             strength,
             parameter,
         }
     }
+}
+
+/// The first N numbers of a list, filled up with 0 where there are fewer.
+fn kept<const N: usize>(items: &[u8]) -> [u8; N]
+    ensures { result ≡ padded N 0 items.now }
+{
+    let mut front = [0; N];
+    for i in 0..N {
+        front[i] = read_or(items, i, 0);
+    }
+    front
+}
+
+/// The length of a list, at most 255.
+fn count_of(items: &[u8]) -> u8
+    ensures { result ≡ min (length items.now) 255 }
+{
+    items.len().min(255) as u8
 }

@@ -2,7 +2,7 @@
 use Rattle.std.specs.Prelude.{◌≡◌, ℕ, false, List, [], ◌∷◌, ◌++◌, length, drop, replicate, None}
 use Rattle.meaning.specs.Ranks.{Ranks}
 use Rattle.meaning.specs.Calc.{Calc}
-use Rattle.sheets.specs.Contents.{Contents, Tables, blank_sheet}
+use Rattle.sheets.specs.Contents.{Tables, blank_sheet}
 use Rattle.sheets.specs.Checks.{open_refusal}
 use Rattle.runs.specs.declared.calls.Call.{Call}
 use Rattle.runs.specs.declared.calls.Call.TheVariants.{Add, Remove, Enter, Freeze, Release}

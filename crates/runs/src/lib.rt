@@ -4,5 +4,3 @@
 
 pub mod calls;
 pub mod held;
-pub mod laws;
-pub mod perform;

@@ -201,7 +201,7 @@ fn a_card_is_unpacked_and_packed(rt: HostRuntime) {
     let coat = CardFigure::Code(340);
     let core = CardFigure::Code(999);
     assert_eq!(rt; figures, [entered, furnish, coat, core, entered]);
-    are_blank(&rt, &blanks, &[None; 5])
+    are_blank(&rt, &blanks, &[None; 5]);
 }
 
 // Rule 0 finds a code where it needs a card; rule 1 is fed from it.

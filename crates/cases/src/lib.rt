@@ -10,3 +10,5 @@ mod placing_cases;
 mod planning_cases;
 #[cfg(test)]
 mod rank_cases;
+#[cfg(test)]
+mod record_cases;

@@ -16,16 +16,7 @@ module _ {F : Type 0} (m : Calc F) (laws : CalcLaws m) where
   figure_taken table places i all =
       cond_both (ltb i (length places)) _ _ Takes (λ _. all_read Takes table (get_or places i 0) m.start all laws.start_taken) (λ _. laws.start_taken)
 
-  every_figure_taken : (table : List F) (places is : List ℕ) → AllByRecursion Takes table → AllByRecursion (λ i. Takes (figure_at m.start table places i)) is
-  every_figure_taken table places [] all = tt
-  every_figure_taken table places (i ∷ is) all = (figure_taken table places i all, every_figure_taken table places is all)
-
-  -- The figures of the inputs are taken.
-  pub inputs_taken : (kind way : ℕ) (table : List F) (places : List ℕ) → AllByRecursion Takes table → AllByRecursion Takes (input_figures m kind way table places)
-  inputs_taken kind way table places all =
-      All-map Takes (figure_at m.start table places) (input_places m kind way) (every_figure_taken table places (input_places m kind way) all)
-
-  -- The same where the table has others too, if the figure at every place is taken.
+  -- The figures of the inputs are taken, if the figure at every place is.
   every_read_taken : (table : List F) (places is : List ℕ) → ((i : ℕ) → Takes (figure_at m.start table places i)) → AllByRecursion (λ i. Takes (figure_at m.start table places i)) is
   every_read_taken table places [] all = tt
   every_read_taken table places (i ∷ is) all = (all i, every_read_taken table places is all)
@@ -34,7 +25,11 @@ module _ {F : Type 0} (m : Calc F) (laws : CalcLaws m) where
   inputs_read_taken kind way table places all =
       All-map Takes (figure_at m.start table places) (input_places m kind way) (every_read_taken table places (input_places m kind way) all)
 
-  -- So what is answered on them, with a P that is taken, is proper.
+  -- So they are over a table of taken figures.
+  pub inputs_taken : (kind way : ℕ) (table : List F) (places : List ℕ) → AllByRecursion Takes table → AllByRecursion Takes (input_figures m kind way table places)
+  inputs_taken kind way table places all = inputs_read_taken kind way table places (λ i. figure_taken table places i all)
+
+  -- What is answered on taken inputs, with a P that is taken, is proper.
   pub answer_proper : (kind way : ℕ) (p : F) (table : List F) (places : List ℕ) → kind < m.kinds → way < m.ways kind → Takes p → ((i : ℕ) → Takes (figure_at m.start table places i)) → Proper m kind way (m.answer kind way p (input_figures m kind way table places))
   answer_proper kind way p table places k w tp all = laws.proper kind way p _ k w tp (inputs_read_taken kind way table places all) (length-map _ _)
 

@@ -1,9 +1,7 @@
-//! Rule records as they are handed in: their checks, and what a board and working out see of them.
+//! Rule records as they are handed in, a sheet's own copy of a rule, and why a call is refused.
 
 #![tactic(auto)]
 
-pub mod checks;
-pub mod making;
 pub mod record;
 pub mod refusal;
 pub mod row;

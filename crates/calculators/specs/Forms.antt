@@ -1,8 +1,8 @@
 -- The form of a kind: how many places and ways it has, and which places each way gives. A calculator's forms stand in one
 -- table by kind, and a test of that table decides whether its kinds have a lawful shape.
 use Rattle.std.specs.Prelude.{ℕ, ◌^◌, Bool, ◌&&◌, List, [], ◌∷◌, length, take, ◌==◌, nat_le, nat_lt, slice_index, slice_index_or}
+use Rattle.std.specs.List.{list_all}
 use Rattle.meaning.specs.Calc.{Answer, Calc}
-use Rattle.meaning.specs.Lists.{every}
 use Rattle.meaning.specs.Masks.{bit}
 use Rattle.calculators.specs.declared.forms.Form.{Form}
 
@@ -39,8 +39,8 @@ lawful_mask places mask = nat_lt 0 mask && nat_lt mask (2 ^ places)
 -- 1 to 6 places, 1 to 4 ways, and for each way a lawful mask.
 abbrev pub lawful_form : Form → Bool
 lawful_form form =
-    (nat_le 1 form.places && nat_le form.places 6) && ((nat_le 1 form.ways && nat_le form.ways 4) && (length form.outputs == 4 && every (lawful_mask form.places) (take form.ways form.outputs)))
+    (nat_le 1 form.places && nat_le form.places 6) && ((nat_le 1 form.ways && nat_le form.ways 4) && (length form.outputs == 4 && list_all (lawful_mask form.places) (take form.ways form.outputs)))
 
 -- The test of a whole table.
 abbrev pub lawful_forms : List Form → Bool
-lawful_forms = every lawful_form
+lawful_forms = list_all lawful_form

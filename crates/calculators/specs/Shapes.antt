@@ -1,9 +1,9 @@
 -- A table of forms that passes its test gives each of its kinds a lawful shape.
 use Rattle.std.specs.Prelude.{◌≡◌, ℕ, ◌^◌, ◌<◌, ◌≤◌, Bool, true, List, length, take, slice_index, slice_index_or}
+use Rattle.std.specs.List.{list_all}
 use Rattle.std.proofs.Common.{arith, length-take, get_or-take}
 use Rattle.std.proofs.lemmas.Bool.{and_parts, leb-true, ltb-true, eqb-true}
 use Rattle.meaning.specs.Calc.{Answer, KindLaws}
-use Rattle.meaning.specs.Lists.{every}
 use Rattle.meaning.proofs.Lists.{every_at}
 use Rattle.meaning.proofs.MaskBits.{bit_below, some_bit}
 use Rattle.calculators.specs.declared.forms.Form.{Form}
@@ -16,7 +16,7 @@ record Lawful (form : Form) : Type 0 where
   some_way : 1 ≤ form.ways
   few_ways : form.ways ≤ 4
   four_masks : length form.outputs ≡ 4
-  masks : every (lawful_mask form.places) (take form.ways form.outputs) ≡ true
+  masks : list_all (lawful_mask form.places) (take form.ways form.outputs) ≡ true
 
 lawful_parts : (form : Form) → lawful_form form ≡ true → Lawful form
 lawful_parts form passed =

@@ -1,10 +1,5 @@
--- Tests of the elements of a list.
-use Rattle.std.specs.Prelude.{ℕ, Bool, true, false, ◌&&◌, ◌||◌, List, [], ◌∷◌, ◌==◌}
-
--- The test f passes at each element.
-abbrev pub every : {X : Type 0} → (X → Bool) → List X → Bool
-every f [] = true
-every f (x ∷ xs) = f x && every f xs
+-- A test of the elements of a list.
+use Rattle.std.specs.Prelude.{ℕ, Bool, false, ◌||◌, List, [], ◌∷◌, ◌==◌}
 
 -- The number is on the list.
 abbrev pub is_on : ℕ → List ℕ → Bool

@@ -1,9 +1,9 @@
 -- A success leaves a board on which the placed rule is in force, and a choice.
 use Rattle.std.proofs.Common.{◌≡◌, ℕ, zero, suc, ◌<◌, ◌≤◌, true, false, ◌&&◌, eqb, ltb, leb, ◌⊎◌, List, [], ◌∷◌, length, get_or, sym, refl, ap, ◌∙◌, subst, inl, inr, ⊎_elim, arith}
+use Rattle.std.specs.List.{list_all}
 use lib.Bits.{and_zero_l, and_zero_r, and_comm}
 use Rattle.std.proofs.lemmas.List.{get_or_past, get_or_default}
 use Rattle.std.proofs.lemmas.Bool.{both_ways, cases_lt, cases_Bool, and_parts, eqb-true, ltb-true, lt-ltb}
-use Rattle.meaning.specs.Lists.{every}
 use Rattle.meaning.specs.Masks.{bit}
 use Rattle.meaning.proofs.Lists.{every_at}
 use Rattle.placing.specs.declared.rules.Rule.{Rule}
@@ -42,8 +42,8 @@ listed_cells rules lawful x i c lt h =
     let ways = (and_parts _ _ (lawful x)).1 in
     let way = get_or (listed rules x) i no_way in
     let ok : lawful_way way ≡ true = every_at lawful_way (listed rules x) i no_way ways lt in
-    let rest = (and_parts (leb way.count 6) (every (λ c. ltb c 64) (cells_of way) && eqb way.mask (mask_of (cells_of way))) ok).1 in
-    let mask = eqb-true way.mask (mask_of (cells_of way)) (and_parts (every (λ c. ltb c 64) (cells_of way)) (eqb way.mask (mask_of (cells_of way))) rest).1 in
+    let rest = (and_parts (leb way.count 6) (list_all (λ c. ltb c 64) (cells_of way) && eqb way.mask (mask_of (cells_of way))) ok).1 in
+    let mask = eqb-true way.mask (mask_of (cells_of way)) (and_parts (list_all (λ c. ltb c 64) (cells_of way)) (eqb way.mask (mask_of (cells_of way))) rest).1 in
     mask_cell (cells_of way) c (subst (λ (m : ℕ). bit m c ≡ true) mask h)
 
 -- The index of the way by which a rule is in force.

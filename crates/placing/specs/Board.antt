@@ -1,6 +1,6 @@
 -- The rules of a board, their listed ways and outputs, and who gives which cells.
 use Rattle.std.specs.Prelude.{◌≡◌, ℕ, suc, ◌^◌, Bool, true, false, cond, ◌&&◌, ltb, List, [], ◌∷◌, length, get_or, take, Some, None, Option, ◌==◌, ◌≢◌, bit_and, bit_or, nat_le, nat_lt, slice_index_or}
-use Rattle.meaning.specs.Lists.{every}
+use Rattle.std.specs.List.{list_all}
 use Rattle.placing.specs.declared.rules.Way.{Way}
 use Rattle.placing.specs.declared.rules.Rule.{Rule}
 use Rattle.placing.specs.declared.rules.State.{State}
@@ -93,11 +93,11 @@ mask_of (c ∷ cs) = bit_or (2 ^ c) (mask_of cs)
 
 -- At most 6 outputs, each a cell below 64, and the mask is theirs.
 abbrev pub lawful_way : Way → Bool
-lawful_way way = nat_le way.count 6 && (every (λ c. ltb c 64) (cells_of way) && way.mask == mask_of (cells_of way))
+lawful_way way = nat_le way.count 6 && (list_all (λ c. ltb c 64) (cells_of way) && way.mask == mask_of (cells_of way))
 
 -- At most 4 ways, each lawful.
 abbrev pub lawful_rule : Rule → Bool
-lawful_rule rule = nat_le rule.count 4 && every lawful_way (ways_of rule)
+lawful_rule rule = nat_le rule.count 4 && list_all lawful_way (ways_of rule)
 
 abbrev pub LawfulRules : List Rule → Type 0
 LawfulRules rules = (x : ℕ) → lawful_rule (slice_index_or rules x no_rule) ≡ true

@@ -1,7 +1,7 @@
 //! The test of a rule that is to be put on a board.
 
 ghost use Rattle.std.specs.Prelude.{◌≡◌, true, nat_lt};
-ghost use Rattle.meaning.specs.Lists.{every};
+ghost use Rattle.std.specs.List.{list_all};
 ghost use Rattle.placing.specs.Board.{mask_of, lawful_way, lawful_rule};
 
 use crate::rules::{Rule, Way};
@@ -9,7 +9,7 @@ use crate::search::{cells_of, way_at, way_count};
 
 /// Whether each cell is below 64.
 fn are_small(cells: &[u8]) -> bool
-    ensures { result ≡ every (λ c. nat_lt c 64) cells.now }
+    ensures { result ≡ list_all (λ c. nat_lt c 64) cells.now }
 {
     for cell in cells {
         if *cell >= 64 {
@@ -21,7 +21,7 @@ fn are_small(cells: &[u8]) -> bool
 
 /// The set of some cells below 64, as a mask.
 fn mask_of(cells: &[u8]) -> u64
-    requires { every (λ c. nat_lt c 64) cells.now ≡ true }
+    requires { list_all (λ c. nat_lt c 64) cells.now ≡ true }
     ensures { result ≡ mask_of cells.now }
 {
     let mut mask = 0;

@@ -1,6 +1,6 @@
 -- The checks of each call, in rising order of their numbers.
 use Rattle.std.specs.Prelude.{ℕ, suc, Bool, true, false, cond, not, ◌&&◌, ◌||◌, List, [], ◌∷◌, length, take, Some, None, Option, nat_le, nat_lt, slice_index_or}
-use Rattle.meaning.specs.Lists.{every}
+use Rattle.std.specs.List.{list_all}
 use Rattle.meaning.specs.Ranks.{Ranks}
 use Rattle.meaning.specs.Calc.{Calc}
 use Rattle.ranks.specs.RankOrder.{strength_at}
@@ -14,7 +14,7 @@ use Rattle.sheets.specs.Contents.{Contents, Tables}
 
 -- The figure table has every cell of the sheet, and each of these figures is taken.
 abbrev pub figures_fit : {F : Type 0} → Calc F → ℕ → List F → Bool
-figures_fit m cells figures = nat_le cells (length figures) && every m.takes (take cells figures)
+figures_fit m cells figures = nat_le cells (length figures) && list_all m.takes (take cells figures)
 
 -- A test passes at each standing rule, the first being rule x.
 abbrev pub standing_pass : (ℕ → Bool) → ℕ → List State → Bool

@@ -1,10 +1,10 @@
 use Rattle.std.proofs.Common.{◌≡◌, ℕ, ◌+◌, ◌-◌, ◌^◌, ◌<◌, true, ltb, List, ◌∷◌, length, get_or, drop, sym, ap, ◌∙◌, arith}
+use Rattle.std.specs.List.{list_all}
 use lib.Bits.{bit_or, or_comm}
 use lib.Seq.{drop-length}
 use Rattle.std.proofs.lemmas.Nat.{one_shl}
 use Rattle.std.proofs.lemmas.List.{drop_more}
 use Rattle.std.proofs.lemmas.Bool.{ltb-true}
-use Rattle.meaning.specs.Lists.{every}
 use Rattle.meaning.proofs.Lists.{every_at}
 use Rattle.placing.specs.Board.{mask_of}
 use Rattle.placing.proofs.lawful.mask_of.Goals as goal
@@ -13,7 +13,7 @@ pub loop-i-init : goal.loop-i-init
 loop-i-init c = (sym (ap mask_of (drop-length c.args.cells.now)), omega arith)
 
 -- Of cells that are all below 64, each is.
-small : (cells : List ℕ) (k : ℕ) → every (λ n. ltb n 64) cells ≡ true → k < length cells → get_or cells k 0 < 64
+small : (cells : List ℕ) (k : ℕ) → list_all (λ n. ltb n 64) cells ≡ true → k < length cells → get_or cells k 0 < 64
 small cells k all within = ltb-true (get_or cells k 0) 64 (every_at (λ n. ltb n 64) cells k 0 all within)
 
 pub overflow_shl-mask : goal.overflow_shl-mask

@@ -1,12 +1,25 @@
 -- The card calculator: codes, and cards of three codes; entry and pack.
-use Rattle.std.specs.Prelude.{ℕ, zero, suc, Bool, ◌&&◌, List, [], ◌∷◌, nat_le, slice_index_or}
+use Rattle.std.specs.Prelude.{ℕ, zero, suc, Bool, ◌&&◌, List, [], ◌∷◌, nat_le, slice_index_or, Result, Ok, Err}
 use Rattle.meaning.specs.Calc.{Answer, gives, faults, Calc}
 use Rattle.calculators.specs.declared.forms.Form.{Form}
 use Rattle.calculators.specs.declared.cards.CardFigure.{CardFigure}
 use Rattle.calculators.specs.declared.cards.CardFigure.TheVariants.{Code, Card}
 use Rattle.calculators.specs.declared.cards.CardFault.{CardFault}
 use Rattle.calculators.specs.declared.cards.CardFault.TheVariants.{Mismatch, NoSuchWay}
+use Rattle.calculators.specs.declared.cards.Kind.{Kind}
+use Rattle.calculators.specs.declared.cards.Kind.TheVariants.{Entry, Pack}
 use Rattle.calculators.specs.Forms.{formed}
+
+-- The kinds are numbered from 0.
+abbrev pub card_kind_number : Kind → ℕ
+card_kind_number Entry = 0
+card_kind_number Pack = 1
+
+-- The kind that has a number.
+abbrev pub numbered_card_kind : ℕ → Result Kind CardFault
+numbered_card_kind zero = Ok Entry
+numbered_card_kind (suc zero) = Ok Pack
+numbered_card_kind (suc (suc kind)) = Err NoSuchWay
 
 -- From 0 to 999.
 abbrev pub is_code : ℕ → Bool

@@ -1,10 +1,34 @@
 -- The quantity calculator: whole numbers in a range; entry, sum, product and limit.
-use Rattle.std.specs.Prelude.{ℕ, zero, suc, Bool, cond, ◌&&◌, ◌||◌, List, [], ◌∷◌, ℤ, pos, negsuc, ◌+ℤ◌, ◌-ℤ◌, ◌*ℤ◌, ◌==◌, int_div, int_le, int_lt, slice_index_or, unsigned_abs}
+use Rattle.std.specs.Prelude.{ℕ, zero, suc, Bool, if◌then◌else◌, ◌&&◌, ◌||◌, List, [], ◌∷◌, ℤ, pos, negsuc, ◌+ℤ◌, ◌-ℤ◌, ◌*ℤ◌, ◌==◌, codes, int_div, int_le, int_lt, slice_index_or, unsigned_abs, Result, Ok, Err}
 use Rattle.meaning.specs.Calc.{Answer, gives, faults, Calc}
 use Rattle.calculators.specs.declared.forms.Form.{Form}
 use Rattle.calculators.specs.declared.quantities.QuantityFault.{QuantityFault}
 use Rattle.calculators.specs.declared.quantities.QuantityFault.TheVariants.{NoQuantity, ZeroDivisor, ParameterBelowOne, NoSuchWay}
+use Rattle.calculators.specs.declared.quantities.Kind.{Kind}
+use Rattle.calculators.specs.declared.quantities.Kind.TheVariants.{Entry, Sum, Product, Limit}
 use Rattle.calculators.specs.Forms.{formed}
+
+-- The kinds are numbered from 0.
+abbrev pub kind_number : Kind → ℕ
+kind_number Entry = 0
+kind_number Sum = 1
+kind_number Product = 2
+kind_number Limit = 3
+
+-- The word of each kind.
+abbrev pub kind_text : Kind → List ℕ
+kind_text Entry = codes "entry"
+kind_text Sum = codes "sum"
+kind_text Product = codes "product"
+kind_text Limit = codes "limit"
+
+-- The kind that has a number.
+abbrev pub numbered_kind : ℕ → Result Kind QuantityFault
+numbered_kind zero = Ok Entry
+numbered_kind (suc zero) = Ok Sum
+numbered_kind (suc (suc zero)) = Ok Product
+numbered_kind (suc (suc (suc zero))) = Ok Limit
+numbered_kind (suc (suc (suc (suc kind)))) = Err NoSuchWay
 
 -- From -1,000,000,000 to 1,000,000,000.
 abbrev pub is_quantity : ℤ → Bool
@@ -21,14 +45,15 @@ faults_by fault = faults (fault_number fault)
 
 -- A result is given if it is a quantity.
 abbrev pub result_of : ℤ → Answer ℤ
-result_of z = cond (is_quantity z) (gives (λ _. z)) (faults_by NoQuantity)
+result_of z = if is_quantity z then gives (λ _. z) else faults_by NoQuantity
 
 abbrev pub is_zero : ℤ → Bool
 is_zero z = unsigned_abs z == 0
 
 -- x × y ÷ d, cut toward zero. A divisor of 0 faults; after that a factor of 0 in the dividend gives 0.
 abbrev pub quotient : ℤ → ℤ → ℤ → Answer ℤ
-quotient x y d = cond (is_zero d) (faults_by ZeroDivisor) (cond (is_zero x || is_zero y) (gives (λ _. pos 0)) (result_of (int_div (x *ℤ y) d)))
+quotient x y d =
+    if is_zero d then faults_by ZeroDivisor else if is_zero x || is_zero y then gives (λ _. pos 0) else result_of (int_div (x *ℤ y) d)
 
 -- The inputs of a way, in place order, are handed to its formula.
 abbrev pub with_one : (ℤ → Answer ℤ) → List ℤ → Answer ℤ
@@ -58,11 +83,11 @@ scaled (suc (suc (suc way))) p = λ xs. faults_by NoSuchWay
 
 -- Product: a P under 1 faults before anything else.
 abbrev pub product : ℕ → ℤ → List ℤ → Answer ℤ
-product way p xs = cond (int_lt p (pos 1)) (faults_by ParameterBelowOne) (scaled way p xs)
+product way p xs = if int_lt p (pos 1) then faults_by ParameterBelowOne else scaled way p xs
 
 -- 1 if a figure is under a limit, else 0.
 abbrev pub mark : ℤ → ℤ → Answer ℤ
-mark a p = cond (int_lt a p) (gives (λ _. pos 1)) (gives (λ _. pos 0))
+mark a p = if int_lt a p then gives (λ _. pos 1) else gives (λ _. pos 0)
 
 -- Limit, places a, b: b = 1 if a is under P, else 0.
 abbrev pub limit : ℕ → ℤ → List ℤ → Answer ℤ

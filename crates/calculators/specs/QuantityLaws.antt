@@ -1,9 +1,8 @@
 -- The quantity calculator keeps the laws: whatever it gives is a quantity, and its faults are numbered from 1.
-use Rattle.std.specs.Prelude.{◌≡◌, ℕ, zero, suc, ◌≤◌, true, ◌||◌, List, ℤ, pos, ◌+ℤ◌, ◌-ℤ◌, ◌*ℤ◌, int_div, int_lt, slice_index_or, refl}
+use Rattle.std.specs.Prelude.{◌≡◌, ℕ, zero, suc, ◌≤◌, true, List, ℤ, pos, refl}
 use Rattle.std.proofs.Common.{arith}
-use Rattle.std.proofs.lemmas.Bool.{cond_both}
 use Rattle.meaning.specs.Calc.{Answer, gives, faults, CalcLaws, Proper}
-use Rattle.calculators.specs.Quantities.{is_quantity, is_zero, result_of, quotient, entry, sum, scaled, product, limit, quantity_answer, quantity_forms, quantities}
+use Rattle.calculators.specs.Quantities.{is_quantity, result_of, quotient, entry, sum, product, limit, quantity_answer, quantity_forms, quantities}
 use Rattle.calculators.specs.Shapes.{formed_shaped}
 
 -- An answer that is quantities throughout, or a fault from 1 on.
@@ -11,36 +10,31 @@ abbrev Sound : Answer ℤ → Type 0
 Sound (gives figure) = (place : ℕ) → is_quantity (figure place) ≡ true
 Sound (faults n) = 1 ≤ n
 
+-- A result is given only if it is a quantity.
 result_sound : (z : ℤ) → Sound (result_of z)
-result_sound z = cond_both (is_quantity z) _ _ Sound (λ is place. is) (λ _. omega arith)
+result_sound z = grind arith
 
+-- So is a quotient; its faults are numbered from 1.
 quotient_sound : (x y d : ℤ) → Sound (quotient x y d)
-quotient_sound x y d =
-    cond_both (is_zero d) _ _ Sound (λ _. omega arith) (λ _. cond_both (is_zero x || is_zero y) _ _ Sound (λ _ place. refl) (λ _. result_sound (int_div (x *ℤ y) d)))
+quotient_sound x y d = grind (arith, result_sound)
 
+-- An entry gives a result.
 entry_sound : (way : ℕ) (p : ℤ) (xs : List ℤ) → Sound (entry way p xs)
-entry_sound zero p xs = result_sound p
-entry_sound (suc way) p xs = omega arith
+entry_sound way p xs = grind (arith, result_sound)
 
+-- A sum gives a result, whichever its way.
 sum_sound : (way : ℕ) (p : ℤ) (xs : List ℤ) → Sound (sum way p xs)
-sum_sound zero p xs = result_sound (slice_index_or xs 0 (pos 0) +ℤ slice_index_or xs 1 (pos 0) +ℤ p)
-sum_sound (suc zero) p xs = result_sound (slice_index_or xs 1 (pos 0) -ℤ slice_index_or xs 0 (pos 0) -ℤ p)
-sum_sound (suc (suc zero)) p xs = result_sound (slice_index_or xs 1 (pos 0) -ℤ slice_index_or xs 0 (pos 0) -ℤ p)
-sum_sound (suc (suc (suc way))) p xs = omega arith
+sum_sound way p xs = grind (arith, result_sound)
 
-scaled_sound : (way : ℕ) (p : ℤ) (xs : List ℤ) → Sound (scaled way p xs)
-scaled_sound zero p xs = quotient_sound (slice_index_or xs 0 (pos 0)) (slice_index_or xs 1 (pos 0)) p
-scaled_sound (suc zero) p xs = quotient_sound (slice_index_or xs 1 (pos 0)) p (slice_index_or xs 0 (pos 0))
-scaled_sound (suc (suc zero)) p xs = quotient_sound (slice_index_or xs 1 (pos 0)) p (slice_index_or xs 0 (pos 0))
-scaled_sound (suc (suc (suc way))) p xs = omega arith
-
+-- A product gives a quotient, once its P is tested.
 product_sound : (way : ℕ) (p : ℤ) (xs : List ℤ) → Sound (product way p xs)
-product_sound way p xs = cond_both (int_lt p (pos 1)) _ _ Sound (λ _. omega arith) (λ _. scaled_sound way p xs)
+product_sound way p xs = grind (arith, quotient_sound)
 
+-- A limit gives 1 or 0.
 limit_sound : (way : ℕ) (p : ℤ) (xs : List ℤ) → Sound (limit way p xs)
-limit_sound zero p xs = cond_both (int_lt (slice_index_or xs 0 (pos 0)) p) _ _ Sound (λ _ place. refl) (λ _ place. refl)
-limit_sound (suc way) p xs = omega arith
+limit_sound way p xs = grind arith
 
+-- Each of the four kinds gives quantities; there is a fault for any other.
 answer_sound : (kind way : ℕ) (p : ℤ) (xs : List ℤ) → Sound (quantity_answer kind way p xs)
 answer_sound zero way p xs = entry_sound way p xs
 answer_sound (suc zero) way p xs = sum_sound way p xs
@@ -48,10 +42,11 @@ answer_sound (suc (suc zero)) way p xs = product_sound way p xs
 answer_sound (suc (suc (suc zero))) way p xs = limit_sound way p xs
 answer_sound (suc (suc (suc (suc kind)))) way p xs = omega arith
 
+-- Quantities throughout are what the calculator takes.
 sound_proper : (kind way : ℕ) (a : Answer ℤ) → Sound a → Proper quantities kind way a
-sound_proper kind way (gives figure) sound = λ place _. sound place
-sound_proper kind way (faults n) sound = sound
+sound_proper kind way a sound = grind arith
 
+-- The quantity calculator is lawful.
 pub quantities_lawful : CalcLaws quantities
 quantities_lawful = record {
   start_taken = refl;

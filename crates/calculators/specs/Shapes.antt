@@ -2,7 +2,7 @@
 use Rattle.std.specs.Prelude.{◌≡◌, ℕ, ◌^◌, ◌<◌, ◌≤◌, Bool, true, List, length, take, slice_index, slice_index_or}
 use Rattle.std.specs.List.{list_all}
 use Rattle.std.proofs.Common.{arith, length-take, get_or-take}
-use Rattle.std.proofs.lemmas.Bool.{and_parts, leb-true, ltb-true, eqb-true}
+use Rattle.std.proofs.lemmas.Bool.Decides.{nat_tests}
 use Rattle.meaning.specs.Calc.{Answer, KindLaws}
 use Rattle.meaning.proofs.Lists.{every_at}
 use Rattle.meaning.proofs.MaskBits.{bit_below, some_bit}
@@ -18,21 +18,9 @@ record Lawful (form : Form) : Type 0 where
   four_masks : length form.outputs ≡ 4
   masks : list_all (lawful_mask form.places) (take form.ways form.outputs) ≡ true
 
+-- A form that passes its test has them all.
 lawful_parts : (form : Form) → lawful_form form ≡ true → Lawful form
-lawful_parts form passed =
-    let whole = and_parts _ _ passed in
-    let places = and_parts _ _ whole.0 in
-    let rest = and_parts _ _ whole.1 in
-    let ways = and_parts _ _ rest.0 in
-    let outputs = and_parts _ _ rest.1 in
-    record {
-      some_place = leb-true _ _ places.0;
-      few_places = leb-true _ _ places.1;
-      some_way = leb-true _ _ ways.0;
-      few_ways = leb-true _ _ ways.1;
-      four_masks = eqb-true _ _ outputs.0;
-      masks = outputs.1;
-    }
+lawful_parts form passed = grind (arith, nat_tests)
 
 -- The mask of a way that the form has: not 0, and over the form's places.
 mask_lawful : (form : Form) → Lawful form → (way : ℕ) → way < form.ways → (0 < slice_index form.outputs way) × (slice_index form.outputs way < 2 ^ form.places)
@@ -40,8 +28,7 @@ mask_lawful form l way h =
     let listed = take form.ways form.outputs in
     let within : way < length listed = simp length-take (omega (arith, l.few_ways, l.four_masks)) in
     let mask : lawful_mask form.places (slice_index listed way) ≡ true = every_at (lawful_mask form.places) listed way 0 l.masks within in
-    let parts = and_parts _ _ (rw get_or-take at mask) in
-    (ltb-true _ _ parts.0, ltb-true _ _ parts.1)
+    grind (arith, nat_tests, get_or-take)
 
 -- The shape laws of every kind of the table, whatever the start, the taken figures and the answers.
 pub formed_shaped : {F : Type 0} (forms : List Form) (start : F) (takes : F → Bool) (answer : ℕ → ℕ → F → List F → Answer F) → lawful_forms forms ≡ true → (kind : ℕ) → kind < length forms → KindLaws (formed forms start takes answer) kind

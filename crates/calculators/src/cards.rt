@@ -1,38 +1,67 @@
 //! The card calculator: codes, and cards of three codes; entry and pack.
 
-ghost use Rattle.std.specs.Prelude.{◌≡◌, true, Some};
+ghost use Rattle.std.specs.Prelude.{◌≡◌, ℕ, true, Some};
 ghost use Rattle.meaning.specs.Calc.{told};
 ghost use Rattle.calculators.specs.Forms.{lawful_forms};
-ghost use Rattle.calculators.specs.Cards.{is_code, card_fault_number, unpack, pack, card_forms, cards};
+ghost use Rattle.calculators.specs.Cards.{card_kind_number, numbered_card_kind, is_code, card_fault_number, unpack, pack, card_forms, cards};
 ghost use Rattle.calculators.specs.CardText.{card_text};
 ghost use Rattle.calculators.specs.CardLaws.{cards_lawful};
 
-use crate::forms;
-use crate::forms::Form;
+use crate::forms::{Form, Forms};
 use meaning::{Calculator, Fault, figure_at};
 use std::fmt;
 
-/// The kinds, by their numbers.
-pub const ENTRY: u8 = 0;
+/// The kinds of rules, by their numbers.
+#[derive(Clone, Copy, PartialEq, Eq, Debug)]
+pub enum Kind {
+    /// The one place gets P.
+    Entry = 0,
+    /// A card and its three codes.
+    Pack = 1,
+}
 
-pub const PACK: u8 = 1;
+/// The number by which a rule names the kind.
+impl From<Kind> for u8 {
+    ghost from_gives = { λ kind number. number ≡ card_kind_number kind };
+
+    fn from(kind: Kind) -> u8 {
+        kind as u8
+    }
+}
+
+/// The kind that has the number, if one does.
+impl TryFrom<u8> for Kind {
+    type Error = CardFault;
+
+    ghost try_from_gives = { λ number result. result ≡ numbered_card_kind number };
+
+    fn try_from(number: u8) -> Result<Self, CardFault> {
+        match number {
+            0 => Ok(Kind::Entry),
+            1 => Ok(Kind::Pack),
+            _ => Err(CardFault::NoSuchWay),
+        }
+    }
+}
 
 /// The greatest code.
 pub const GREATEST_CODE: u16 = 999;
 
 /// Kind by way: places, ways and output masks. Bit 0 of a mask is the card, bits 1 to 3 are furnish, coat and core.
-const FORMS: [Form; 2] = [
-    Form {
-        places: 1,
-        ways: 1,
-        outputs: [0b0001, 0, 0, 0],
-    },
-    Form {
-        places: 4,
-        ways: 2,
-        outputs: [0b1110, 0b0001, 0, 0],
-    },
-];
+const FORMS: Forms<2> = Forms {
+    by_kind: [
+        Form {
+            places: 1,
+            ways: 1,
+            outputs: [0b0001, 0, 0, 0],
+        },
+        Form {
+            places: 4,
+            ways: 2,
+            outputs: [0b1110, 0b0001, 0, 0],
+        },
+    ],
+};
 
 /// A code, or a card of three codes.
 #[derive(Clone, Copy, PartialEq, Eq, Debug)]
@@ -64,9 +93,9 @@ pub const START: CardFigure = CardFigure::Code(0);
 #[derive(Clone, Copy, PartialEq, Eq, Debug)]
 pub enum CardFault {
     /// Pack met a card for a code, or a code for a card.
-    Mismatch,
+    Mismatch = 1,
     /// There is no such kind, or no such way of the kind.
-    NoSuchWay,
+    NoSuchWay = 255,
 }
 
 impl CardFault {
@@ -74,18 +103,18 @@ impl CardFault {
     pub fn number(self) -> u8
         ensures { result ≡ card_fault_number self }
     {
-        match self {
-            CardFault::Mismatch => 1,
-            CardFault::NoSuchWay => 255,
-        }
+        self as u8
     }
+}
 
-    /// The fault as a calculator tells it.
-    fn told(self) -> Fault
-        ensures { result.number ≡ card_fault_number self }
-    {
+/// A calculator tells a fault by its number.
+// As in `quantities`: each fault enum has its own numbers, and one conversion over both would need a trait for them.
+impl From<CardFault> for Fault {
+    ghost from_gives = { λ fault told. told.number ≡ card_fault_number fault };
+
+    fn from(fault: CardFault) -> Fault {
         Fault {
-            number: self.number(),
+            number: fault.number(),
         }
     }
 }
@@ -95,7 +124,7 @@ pub fn card_forms() -> [Form; 2]
     ensures value { result ≡ card_forms }
     ensures lawful { lawful_forms result ≡ true }
 {
-    FORMS
+    FORMS.by_kind
 }
 
 /// Whether a number is a code.
@@ -119,18 +148,13 @@ fn unpacked(card: CardFigure, output: u8) -> Result<CardFigure, Fault>
             2 => coat,
             _ => core,
         })),
-        CardFigure::Code(_) => Err(CardFault::Mismatch.told()),
+        CardFigure::Code(_) => Err(CardFault::Mismatch.into()),
     }
 }
 
 /// The card of three codes.
-fn packed(
-    furnish: CardFigure,
-    coat: CardFigure,
-    core: CardFigure,
-    output: u8,
-) -> Result<CardFigure, Fault>
-    ensures { result ≡ told (pack furnish coat core) output }
+fn packed(furnish: CardFigure, coat: CardFigure, core: CardFigure) -> Result<CardFigure, Fault>
+    ensures { (output : ℕ) → result ≡ told (pack furnish coat core) output }
 {
     match (furnish, coat, core) {
         (CardFigure::Code(furnish), CardFigure::Code(coat), CardFigure::Code(core)) => Ok(
@@ -140,7 +164,7 @@ fn packed(
                 core,
             },
         ),
-        _ => Err(CardFault::Mismatch.told()),
+        _ => Err(CardFault::Mismatch.into()),
     }
 }
 
@@ -172,20 +196,21 @@ impl Calculator for Cards {
         }
     }
 
+    // The same lines as in `Quantities`: the trait asks for each number by itself, and the table answers.
     fn kind_count(&self) -> u8 {
         Self::KINDS
     }
 
     fn place_count(&self, kind: u8) -> u8 {
-        forms::place_count(&FORMS, kind)
+        FORMS.place_count(kind)
     }
 
     fn way_count(&self, kind: u8) -> u8 {
-        forms::way_count(&FORMS, kind)
+        FORMS.way_count(kind)
     }
 
     fn is_output(&self, kind: u8, way: u8, place: u8) -> bool {
-        forms::is_output(&FORMS, kind, way, place)
+        FORMS.is_output(kind, way, place)
     }
 
     fn work_out(
@@ -197,16 +222,12 @@ impl Calculator for Cards {
         places: &[u8],
         output: u8,
     ) -> Result<CardFigure, Fault> {
-        match (kind, way) {
-            (ENTRY, 0) => Ok(p),
-            (PACK, 0) => unpacked(figure_at(START, table, places, 0), output),
-            (PACK, 1) => packed(
-                figure_at(START, table, places, 1),
-                figure_at(START, table, places, 2),
-                figure_at(START, table, places, 3),
-                output,
-            ),
-            _ => Err(CardFault::NoSuchWay.told()),
+        let at = |place: u8| figure_at(START, table, places, place);
+        match (Kind::try_from(kind)?, way) {
+            (Kind::Entry, 0) => Ok(p),
+            (Kind::Pack, 0) => unpacked(at(0), output),
+            (Kind::Pack, 1) => packed(at(1), at(2), at(3)),
+            _ => Err(CardFault::NoSuchWay.into()),
         }
     }
 }

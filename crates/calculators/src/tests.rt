@@ -1,12 +1,18 @@
 //! Both calculators on examples: the worked cases, and what lies outside a kind, a way, a list or a table.
 
-use super::cards::{CardFigure, Cards, PACK};
-use super::quantities::{ENTRY, LIMIT, PRODUCT, Quantities, SUM};
+use super::cards;
+use super::cards::{CardFault, CardFigure, Cards};
+use super::quantities::{Kind, Quantities, QuantityFault};
 use meaning::{Calculator, Fault};
 
+/// The numbers of two kinds.
+const SUM: u8 = Kind::Sum as u8;
+
+const PACK: u8 = cards::Kind::Pack as u8;
+
 /// The answer over a table whose cells 0, 1 and 2 are the places a, b and c.
-fn over(kind: u8, way: u8, p: i64, table: [i64; 3]) -> Result<i64, Fault> {
-    Quantities.work_out(kind, way, p, &table, &[0, 1, 2], 0)
+fn over(kind: Kind, way: u8, p: i64, table: [i64; 3]) -> Result<i64, Fault> {
+    Quantities.work_out(u8::from(kind), way, p, &table, &[0, 1, 2], 0)
 }
 
 fn faults(number: u8) -> Result<i64, Fault> {
@@ -14,22 +20,34 @@ fn faults(number: u8) -> Result<i64, Fault> {
 }
 
 #[test]
+fn kinds_go_by_their_numbers(rt: HostRuntime) {
+    let kinds = [Kind::Entry, Kind::Sum, Kind::Product, Kind::Limit];
+    assert_eq!(rt; kinds.map(u8::from), [0, 1, 2, 3]);
+    assert_eq!(rt; u8::from(cards::Kind::Entry), 0);
+    assert_eq!(rt; Kind::try_from(2u8), Ok(Kind::Product));
+    assert_eq!(rt; Kind::try_from(4u8), Err(QuantityFault::NoSuchWay));
+    assert_eq!(rt; u8::from(cards::Kind::Pack), 1);
+    assert_eq!(rt; cards::Kind::try_from(1u8), Ok(cards::Kind::Pack));
+    assert_eq!(rt; cards::Kind::try_from(2u8), Err(CardFault::NoSuchWay));
+}
+
+#[test]
 fn quantities_answer_the_worked_cases(rt: HostRuntime) {
     let cases = [
-        (PRODUCT, 0, 2, [-7, 1, 0], Ok(-3)),
-        (SUM, 0, 0, [999_999_999, 1, 0], Ok(1_000_000_000)),
-        (SUM, 0, 0, [999_999_999, 2, 0], faults(1)),
-        (SUM, 1, 1, [0, 999_999_999, 0], Ok(-1_000_000_000)),
-        (SUM, 2, 2, [999_999_999, 0, 0], faults(1)),
-        (PRODUCT, 1, 1, [0, 0, 5], faults(2)),
-        (PRODUCT, 1, 0, [0, 0, 5], faults(3)),
-        (PRODUCT, 0, 7, [0, 5, 0], Ok(0)),
-        (PRODUCT, 0, 10_000, [796, 6_030, 0], Ok(479)),
-        (PRODUCT, 2, 10_000, [796, 0, 480], Ok(6_030)),
-        (PRODUCT, 2, 1_000, [1_200, 0, 6_030], Ok(5_025)),
-        (LIMIT, 0, 800, [796, 0, 0], Ok(1)),
-        (LIMIT, 0, 796, [796, 0, 0], Ok(0)),
-        (ENTRY, 0, -12, [0, 0, 0], Ok(-12)),
+        (Kind::Product, 0, 2, [-7, 1, 0], Ok(-3)),
+        (Kind::Sum, 0, 0, [999_999_999, 1, 0], Ok(1_000_000_000)),
+        (Kind::Sum, 0, 0, [999_999_999, 2, 0], faults(1)),
+        (Kind::Sum, 1, 1, [0, 999_999_999, 0], Ok(-1_000_000_000)),
+        (Kind::Sum, 2, 2, [999_999_999, 0, 0], faults(1)),
+        (Kind::Product, 1, 1, [0, 0, 5], faults(2)),
+        (Kind::Product, 1, 0, [0, 0, 5], faults(3)),
+        (Kind::Product, 0, 7, [0, 5, 0], Ok(0)),
+        (Kind::Product, 0, 10_000, [796, 6_030, 0], Ok(479)),
+        (Kind::Product, 2, 10_000, [796, 0, 480], Ok(6_030)),
+        (Kind::Product, 2, 1_000, [1_200, 0, 6_030], Ok(5_025)),
+        (Kind::Limit, 0, 800, [796, 0, 0], Ok(1)),
+        (Kind::Limit, 0, 796, [796, 0, 0], Ok(0)),
+        (Kind::Entry, 0, -12, [0, 0, 0], Ok(-12)),
     ];
     for (kind, way, p, table, due) in cases {
         assert_eq!(rt; over(kind, way, p, table), due);
@@ -39,17 +57,28 @@ fn quantities_answer_the_worked_cases(rt: HostRuntime) {
 #[test]
 fn quantities_are_safe_outside_their_kinds_and_range(rt: HostRuntime) {
     let far = i64::MAX;
-    assert_eq!(rt; over(4, 0, 1, [1, 2, 3]), faults(255), "no such kind");
-    assert_eq!(rt; over(SUM, 3, 1, [1, 2, 3]), faults(255), "no such way");
-    assert_eq!(rt; over(PRODUCT, 255, 1, [1, 2, 3]), faults(255));
     assert_eq!(rt;
-        over(PRODUCT, 0, 1, [far, far, 0]),
+        Quantities.work_out(4, 0, 1, &[1, 2, 3], &[0, 1, 2], 0),
+        faults(255),
+        "no such kind"
+    );
+    assert_eq!(rt;
+        over(Kind::Sum, 3, 1, [1, 2, 3]),
+        faults(255),
+        "no such way"
+    );
+    assert_eq!(rt; over(Kind::Product, 255, 1, [1, 2, 3]), faults(255));
+    assert_eq!(rt;
+        over(Kind::Product, 0, 1, [far, far, 0]),
         faults(1),
         "figures that are not taken"
     );
-    assert_eq!(rt; over(PRODUCT, 0, 1, [i64::MIN, i64::MIN, 0]), faults(1));
-    assert_eq!(rt; over(SUM, 1, far, [0, far, i64::MIN]), faults(1));
-    assert_eq!(rt; over(ENTRY, 0, i64::MIN, [0, 0, 0]), faults(1));
+    assert_eq!(rt;
+        over(Kind::Product, 0, 1, [i64::MIN, i64::MIN, 0]),
+        faults(1)
+    );
+    assert_eq!(rt; over(Kind::Sum, 1, far, [0, far, i64::MIN]), faults(1));
+    assert_eq!(rt; over(Kind::Entry, 0, i64::MIN, [0, 0, 0]), faults(1));
     assert_eq!(rt;
         Quantities.work_out(SUM, 0, 4, &[3], &[0, 9], 2),
         Ok(7),
@@ -84,8 +113,7 @@ fn cards_pack_and_unpack(rt: HostRuntime) {
         CardFigure::Code(999),
     ];
     let places = [0, 1, 2, 3];
-    for place in 1..4u8 {
-        let part = parts[usize::from(place)];
+    for (place, part) in (0..4u8).zip(parts).skip(1) {
         assert_eq!(rt;
             Cards.work_out(PACK, 0, code, &parts, &places, place),
             Ok(part)

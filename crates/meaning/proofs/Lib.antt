@@ -1,3 +1,4 @@
 pub mod Lists
 pub mod Taken
 pub mod MaskBits
+pub mod FromFn

@@ -1,5 +1,5 @@
 -- What a calculator means, what it reads of a lent table, and the laws that such a meaning keeps.
-use Rattle.std.specs.Prelude.{◌≡◌, ℕ, zero, suc, ◌<◌, ◌≤◌, Bool, true, cond, List, [], ◌∷◌, map, length, Ok, Err, Result, nat_lt, slice_index, slice_index_or}
+use Rattle.std.specs.Prelude.{◌≡◌, ℕ, zero, suc, ◌<◌, ◌≤◌, Bool, true, List, [], ◌∷◌, map, length, Ok, Err, Result, nat_lt, slice_index, slice_index_or, if◌then◌else◌}
 use Rattle.std.specs.List.{AllByRecursion}
 use Rattle.meaning.specs.declared.Fault.{Fault}
 
@@ -22,7 +22,7 @@ pub record Calc (F : Type 0) : Type 0 where
 -- Of the n places from i on, those that are no outputs.
 abbrev pub inputs_from : (ℕ → Bool) → ℕ → ℕ → List ℕ
 inputs_from output i zero = []
-inputs_from output i (suc n) = cond (output i) (inputs_from output (suc i) n) (i ∷ inputs_from output (suc i) n)
+inputs_from output i (suc n) = if output i then inputs_from output (suc i) n else i ∷ inputs_from output (suc i) n
 
 -- The input places of a way: the places of its kind that are not its outputs, in place order.
 abbrev pub input_places : {F : Type 0} → Calc F → ℕ → ℕ → List ℕ
@@ -31,7 +31,7 @@ input_places m kind way = inputs_from (m.output kind way) 0 (m.places kind)
 -- The figure at a place: that of the cell which the place names. Where the list of places or the table is too short
 -- it is the starting figure.
 abbrev pub figure_at : {F : Type 0} → F → List F → List ℕ → ℕ → F
-figure_at start table places i = cond (nat_lt i (length places)) (slice_index_or table (slice_index places i) start) start
+figure_at start table places i = if nat_lt i (length places) then slice_index_or table (slice_index places i) start else start
 
 -- The figures of a way's inputs, in place order.
 abbrev pub input_figures : {F : Type 0} → Calc F → ℕ → ℕ → List F → List ℕ → List F

@@ -1,12 +1,12 @@
 -- A ranking and a calculator at the edge of the laws: they keep every one, and say as little as can be said.
 use Rattle.std.specs.Prelude.{ℕ, true, ◌==◌}
-use Rattle.meaning.specs.declared.Order.TheVariants.{Level}
+use Rattle.std.specs.declared.cmp.Ordering.TheVariants.{Equal}
 use Rattle.meaning.specs.Ranks.{Ranks}
 use Rattle.meaning.specs.Calc.{Calc, faults}
 
 -- All strengths are known and level.
 abbrev pub all_level : Ranks ℕ
-all_level = record { known = λ _. true; order = λ _ _. Level }
+all_level = record { known = λ _. true; order = λ _ _. Equal }
 
 -- One kind of one place and one way, which faults whatever it is given; 7 is the only figure.
 abbrev pub always_faulting : Calc ℕ

@@ -8,6 +8,8 @@ ghost use Rattle.meaning.specs.Calc.{Calc, CalcLaws, figure_at, tells};
 
 pub mod masks;
 
+use std::cmp::Ordering;
+
 /// The number of rule numbers, from 0.
 pub const RULES: usize = 64;
 
@@ -20,15 +22,8 @@ pub const PLACES: usize = 6;
 /// The most ways that a kind has.
 pub const WAYS: usize = 4;
 
-/// How the first of two strengths stands to the second.
-#[derive(Clone, Copy, PartialEq, Eq, Debug)]
-pub enum Order {
-    Before,
-    Level,
-    After,
-}
-
 /// Why a way gives no figures: a number from 1, whose sense each calculator fixes.
+// A number and no enum: each calculator has its own faults, and what shows a fault knows its number alone.
 #[derive(Clone, Copy, PartialEq, Eq, Debug)]
 pub struct Fault {
     pub number: u8,
@@ -44,14 +39,15 @@ pub trait Ranking {
     fn knows(&self, strength: Self::Strength) -> bool
         ensures { result ≡ (meaning self.now).known strength };
 
-    /// How the first strength stands to the second.
-    fn compare(&self, first: Self::Strength, second: Self::Strength) -> Order
+    /// How the first strength ranks beside the second: less is before it, equal is level with it, greater is after it.
+    fn compare(&self, first: Self::Strength, second: Self::Strength) -> Ordering
         ensures { result ≡ (meaning self.now).order first second };
 
     ghost lawful: { (r : Self) → RankLaws (meaning r) };
 }
 
 /// A calculator. Every method tells its part of the one meaning, and changes nothing.
+// Kinds and ways are bytes: a rule can name any, and what is answered of those that there are not is promised too.
 pub trait Calculator {
     type Figure: Copy;
 
@@ -101,13 +97,11 @@ pub trait Calculator {
 pub fn read_or<T: Copy>(items: &[T], i: usize, default: T) -> T
     ensures { result ≡ slice_index_or items.now i default }
 {
-    if i >= items.len() {
-        return default;
-    }
-    items[i]
+    items.get(i).copied().unwrap_or(default)
 }
 
 /// Writes the element at an index; past the end nothing is written.
+// By index: of a write through a slice's `get_mut` a proof knows the length alone.
 pub fn write_at<T: Copy>(items: &mut [T], at: usize, item: T)
     ensures { items.new ≡ slice_set items.old at item }
 {
@@ -121,12 +115,7 @@ pub fn front<T>(items: &[T], count: u8) -> &[T]
     ensures value { result.now ≡ take count items.now }
     ensures few { length result.now ≤ 255 }
 {
-    let count = usize::from(count);
-    if count < items.len() {
-        &items[0..count]
-    } else {
-        items
-    }
+    items.get(..usize::from(count)).unwrap_or(items)
 }
 
 /// The figure at a place of a rule: that of the cell which the place names, or `start` where the list of places or the
@@ -134,10 +123,9 @@ pub fn front<T>(items: &[T], count: u8) -> &[T]
 pub fn figure_at<F: Copy>(start: F, table: &[F], places: &[u8], place: u8) -> F
     ensures { result ≡ figure_at start table.now places.now place }
 {
-    match places.get(usize::from(place)) {
-        Some(cell) => read_or(table, usize::from(*cell), start),
-        None => start,
-    }
+    places
+        .get(usize::from(place))
+        .map_or(start, |cell| read_or(table, usize::from(*cell), start))
 }
 
 #[cfg(test)]

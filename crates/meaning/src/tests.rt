@@ -2,7 +2,7 @@
 
 ghost use Rattle.std.specs.Prelude.{◌≡◌, true};
 ghost use Rattle.std.specs.List.{AllByRecursion};
-ghost use Rattle.meaning.specs.Ranks.{not_after};
+ghost use Rattle.std.specs.Ordering.{is_le};
 ghost use Rattle.meaning.specs.Extremes.{all_level, always_faulting};
 ghost use Rattle.std.proofs.Common.{rules};
 
@@ -11,12 +11,12 @@ use super::*;
 /// Of two strengths that the ranking knows, one that is after neither.
 fn first_of<R: Ranking>(ranking: &R, a: R::Strength, b: R::Strength) -> R::Strength
     requires known { ((R.meaning ranking.now).known a ≡ true) × ((R.meaning ranking.now).known b ≡ true) }
-    ensures not_after_a { not_after ((R.meaning ranking.now).order result a) ≡ true }
-    ensures not_after_b { not_after ((R.meaning ranking.now).order result b) ≡ true }
+    ensures not_after_a { is_le ((R.meaning ranking.now).order result a) ≡ true }
+    ensures not_after_b { is_le ((R.meaning ranking.now).order result b) ≡ true }
 {
     match ranking.compare(a, b) {
-        Order::Before | Order::Level => a,
-        Order::After => b,
+        Ordering::Less | Ordering::Equal => a,
+        Ordering::Greater => b,
     }
 }
 
@@ -40,10 +40,9 @@ fn worked_out_or_start<C: Calculator>(
     if !calculator.takes(p) || !calculator.is_output(kind, way, output) {
         return calculator.start();
     }
-    match calculator.work_out(kind, way, p, table, places, output) {
-        Ok(figure) => figure,
-        Err(_) => calculator.start(),
-    }
+    calculator
+        .work_out(kind, way, p, table, places, output)
+        .unwrap_or(calculator.start())
 }
 
 /// A ranking that calls all strengths level.
@@ -60,8 +59,8 @@ impl Ranking for AllLevel {
         true
     }
 
-    fn compare(&self, _first: u8, _second: u8) -> Order {
-        Order::Level
+    fn compare(&self, _first: u8, _second: u8) -> Ordering {
+        Ordering::Equal
     }
 }
 

@@ -1,19 +1,23 @@
--- The two rankings: by class, and by day and then class.
-use Rattle.std.specs.Prelude.{ℕ, Bool, cond, nat_le, nat_lt}
-use Rattle.meaning.specs.declared.Order.{Order}
-use Rattle.meaning.specs.declared.Order.TheVariants.{Before, Level, After}
+-- The classes, and the two rankings: by class, and by day and then class.
+use Rattle.std.specs.Prelude.{◌≡◌, ℕ, ◌<◌, Bool, Ok, Err, Result, nat_le}
+use Rattle.std.specs.Ordering.{nat_cmp, ordering_then}
 use Rattle.meaning.specs.Ranks.{Ranks}
+use Rattle.rankings.specs.declared.Class.{Class}
+use Rattle.rankings.specs.declared.Class.TheVariants.{Required, Strong, Medium, Weak}
+use Rattle.rankings.specs.declared.UnknownClass.{UnknownClass}
 use Rattle.rankings.specs.declared.DatedStrength.{DatedStrength}
 
--- The lower number is before.
-abbrev pub by_number : ℕ → ℕ → Order
-by_number a b = cond (nat_lt a b) Before (cond (nat_lt b a) After Level)
+-- The byte of each class.
+abbrev pub class_byte : Class → ℕ
+class_byte Required = 0
+class_byte Strong = 1
+class_byte Medium = 2
+class_byte Weak = 3
 
--- What the first comparison says, and where it says level, what the second does.
-abbrev pub then_by : Order → Order → Order
-then_by Before second = Before
-then_by Level second = second
-then_by After second = After
+-- A byte is read as the class whose byte it is; any other is handed back.
+abbrev pub Reads : ℕ → Result Class UnknownClass → Type 0
+Reads byte (Ok class) = byte ≡ class_byte class
+Reads byte (Err unknown) = (3 < byte) × (unknown.0 ≡ byte)
 
 -- A class is 0 required, 1 strong, 2 medium or 3 weak.
 abbrev pub is_class : ℕ → Bool
@@ -21,11 +25,11 @@ is_class class = nat_le class 3
 
 -- The class ranking: the lower class is before.
 abbrev pub class_ranks : Ranks ℕ
-class_ranks = record { known = is_class; order = by_number }
+class_ranks = record { known = is_class; order = nat_cmp }
 
 -- The dated ranking: the earlier day is before, and on one day the lower class.
 abbrev pub dated_ranks : Ranks DatedStrength
 dated_ranks = record {
   known = λ a. is_class a.class;
-  order = λ a b. then_by (by_number a.day b.day) (by_number a.class b.class);
+  order = λ a b. ordering_then (nat_cmp a.day b.day) (nat_cmp a.class b.class);
 }

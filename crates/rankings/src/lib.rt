@@ -4,56 +4,55 @@
 
 ghost use Rattle.std.specs.Prelude.{◌≡◌};
 ghost use Rattle.meaning.specs.Ranks.{RankLaws};
-ghost use Rattle.rankings.specs.Strengths.{by_number, then_by, is_class, class_ranks, dated_ranks};
+ghost use Rattle.rankings.specs.Strengths.{class_byte, Reads, class_ranks, dated_ranks};
 ghost use Rattle.std.proofs.Common.{rules};
 
-use meaning::{Order, Ranking};
+use meaning::Ranking;
+use std::cmp::Ordering;
 
-/// The classes, from the strongest to the weakest. A class is kept as the byte that the sheet file has, so that a byte
-/// that is none of them can be refused by the ranking.
-pub const REQUIRED: u8 = 0;
-
-pub const STRONG: u8 = 1;
-
-pub const MEDIUM: u8 = 2;
-
-pub const WEAK: u8 = 3;
-
-/// A delivery day and a class.
+/// The classes, from the strongest to the weakest.
 #[derive(Clone, Copy, PartialEq, Eq, Debug)]
+pub enum Class {
+    Required,
+    Strong,
+    Medium,
+    Weak,
+}
+
+/// A byte that is none of the classes.
+#[derive(Clone, Copy, PartialEq, Eq, Debug)]
+pub struct UnknownClass(pub u8);
+
+impl TryFrom<u8> for Class {
+    type Error = UnknownClass;
+
+    ghost try_from_gives = { Reads };
+
+    fn try_from(byte: u8) -> Result<Class, UnknownClass> {
+        match byte {
+            0 => Ok(Class::Required),
+            1 => Ok(Class::Strong),
+            2 => Ok(Class::Medium),
+            3 => Ok(Class::Weak),
+            _ => Err(UnknownClass(byte)),
+        }
+    }
+}
+
+impl From<Class> for u8 {
+    ghost from_gives = { λ class byte. byte ≡ class_byte class };
+
+    fn from(class: Class) -> u8 {
+        class as u8
+    }
+}
+
+/// A delivery day and a class. The earlier day is before, and on one day the lower class. A class is kept as the byte that
+/// was keyed, so that the ranking can refuse one that is unknown.
+#[derive(Clone, Copy, PartialEq, Eq, PartialOrd, Ord, Debug)]
 pub struct DatedStrength {
     pub day: u16,
     pub class: u8,
-}
-
-/// The lower number is before.
-fn by_number(a: u16, b: u16) -> Order
-    ensures { result ≡ by_number a b }
-{
-    if a < b {
-        Order::Before
-    } else if b < a {
-        Order::After
-    } else {
-        Order::Level
-    }
-}
-
-/// What the first comparison says, and where it says level, what the second does.
-fn then_by(first: Order, second: Order) -> Order
-    ensures { result ≡ then_by first second }
-{
-    match first {
-        Order::Before | Order::After => first,
-        Order::Level => second,
-    }
-}
-
-/// Whether the number is one of the four classes.
-fn is_class(class: u8) -> bool
-    ensures { result ≡ is_class class }
-{
-    class <= WEAK
 }
 
 /// Ranks by class alone: the lower class is before. It knows the four classes and nothing else.
@@ -68,11 +67,11 @@ impl Ranking for Classes {
     ghost lawful = { Prim.search rules };
 
     fn knows(&self, strength: u8) -> bool {
-        is_class(strength)
+        Class::try_from(strength).is_ok()
     }
 
-    fn compare(&self, first: u8, second: u8) -> Order {
-        by_number(u16::from(first), u16::from(second))
+    fn compare(&self, first: u8, second: u8) -> Ordering {
+        first.cmp(&second)
     }
 }
 
@@ -88,13 +87,11 @@ impl Ranking for Dated {
     ghost lawful = { Prim.search rules };
 
     fn knows(&self, strength: DatedStrength) -> bool {
-        is_class(strength.class)
+        Class::try_from(strength.class).is_ok()
     }
 
-    fn compare(&self, first: DatedStrength, second: DatedStrength) -> Order {
-        let day = by_number(first.day, second.day);
-        let class = by_number(u16::from(first.class), u16::from(second.class));
-        then_by(day, class)
+    fn compare(&self, first: DatedStrength, second: DatedStrength) -> Ordering {
+        first.cmp(&second)
     }
 }
 

@@ -2,13 +2,22 @@
 
 use super::*;
 
+/// The bytes of the four classes.
+const REQUIRED: u8 = Class::Required as u8;
+
+const STRONG: u8 = Class::Strong as u8;
+
+const MEDIUM: u8 = Class::Medium as u8;
+
+const WEAK: u8 = Class::Weak as u8;
+
 #[test]
 fn classes_rank_by_number(rt: HostRuntime) {
     let cases = [
-        (REQUIRED, STRONG, Order::Before),
-        (STRONG, STRONG, Order::Level),
-        (WEAK, MEDIUM, Order::After),
-        (0, 3, Order::Before),
+        (REQUIRED, STRONG, Ordering::Less),
+        (STRONG, STRONG, Ordering::Equal),
+        (WEAK, MEDIUM, Ordering::Greater),
+        (0, 3, Ordering::Less),
     ];
     for (a, b, order) in cases {
         assert_eq!(rt; Classes.compare(a, b), order);
@@ -31,10 +40,10 @@ fn dates_rank_before_classes(rt: HostRuntime) {
         day: 8,
         class: WEAK,
     };
-    assert_eq!(rt; Dated.compare(early_weak, late_required), Order::Before);
-    assert_eq!(rt; Dated.compare(late_required, early_weak), Order::After);
-    assert_eq!(rt; Dated.compare(late_required, late_weak), Order::Before);
-    assert_eq!(rt; Dated.compare(late_weak, late_weak), Order::Level);
+    assert_eq!(rt; Dated.compare(early_weak, late_required), Ordering::Less);
+    assert_eq!(rt; Dated.compare(late_required, early_weak), Ordering::Greater);
+    assert_eq!(rt; Dated.compare(late_required, late_weak), Ordering::Less);
+    assert_eq!(rt; Dated.compare(late_weak, late_weak), Ordering::Equal);
     assert!(rt;
         Dated.knows(DatedStrength {
             day: 65535,

@@ -1,3 +1,4 @@
 pub mod Counting
-pub mod RankOrder
+pub mod StrictOrder
 pub mod RankNumbers
+pub mod RankList

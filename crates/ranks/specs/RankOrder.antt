@@ -1,29 +1,25 @@
 -- The order of the rules under a ranking, and the rank numbers that tell it.
-use Rattle.std.specs.Prelude.{◌≡◌, ℕ, zero, suc, ◌+◌, ◌<◌, Bool, true, false, cond, List, [], ◌∷◌, map, Some, None, Option, nat_lt}
+use Rattle.std.specs.Prelude.{◌≡◌, ℕ, ◌<◌, Bool, true, false, List, map, Some, None, Option, if◌then◌else◌, count_by, nat_lt, slice_get}
 use Rattle.std.specs.List.{range_with_len}
-use Rattle.meaning.specs.declared.Order.{Order}
-use Rattle.meaning.specs.declared.Order.TheVariants.{Before, Level, After}
+use Rattle.std.specs.declared.cmp.Ordering.{Ordering}
+use Rattle.std.specs.declared.cmp.Ordering.TheVariants.{Less, Equal, Greater}
 use Rattle.meaning.specs.Masks.{bit}
 use Rattle.meaning.specs.Ranks.{Ranks}
 
--- The entry of a table of strengths, if it has one.
-abbrev pub strength_at : {S : Type 0} → List S → ℕ → Option S
-strength_at [] x = None
-strength_at (s ∷ strengths) zero = Some s
-strength_at (s ∷ strengths) (suc x) = strength_at strengths x
-
+-- A strength, if the ranking knows it.
 abbrev pub if_known : {S : Type 0} → Ranks S → Option S → Option S
-if_known m (Some s) = cond (m.known s) (Some s) None
+if_known m (Some s) = if m.known s then Some s else None
 if_known m None = None
 
 -- The strength by which a rule ranks: that of a standing rule, if the ranking knows it.
 abbrev pub strength_of : {S : Type 0} → Ranks S → List S → ℕ → ℕ → Option S
-strength_of m strengths standing x = cond (bit standing x) (if_known m (strength_at strengths x)) None
+strength_of m strengths standing x = if bit standing x then if_known m (slice_get strengths x) else None
 
-abbrev pub or_number : Order → Bool → Bool
-or_number Before lower = true
-or_number Level lower = lower
-or_number After lower = false
+-- Before, or level and of the lower number.
+abbrev pub or_number : Ordering → Bool → Bool
+or_number Less lower = true
+or_number Equal lower = lower
+or_number Greater lower = false
 
 -- Rule x ranks before rule y if its strength is before, or is level and x has the lower number. Rules without a strength
 -- come behind all others, by number.
@@ -36,14 +32,9 @@ precedes m None x None y = nat_lt x y
 abbrev pub ranks_before : {S : Type 0} → Ranks S → List S → ℕ → ℕ → ℕ → Bool
 ranks_before m strengths standing x y = precedes m (strength_of m strengths standing x) x (strength_of m strengths standing y) y
 
--- How many numbers below n pass a test.
-unfoldable pub count_below : (ℕ → Bool) → ℕ → ℕ
-count_below test zero = 0
-count_below test (suc n) = cond (test n) 1 0 + count_below test n
-
 -- The rank of a rule: how many rules rank before it.
 abbrev pub rank_number : {S : Type 0} → Ranks S → List S → ℕ → ℕ → ℕ
-rank_number m strengths standing x = count_below (λ y. ranks_before m strengths standing y x) 64
+rank_number m strengths standing x = count_by (λ y. ranks_before m strengths standing y x) (range_with_len 0 64)
 
 -- The rank numbers of the sixty-four rules, by number.
 unfoldable pub rank_list : {S : Type 0} → Ranks S → List S → ℕ → List ℕ

@@ -2,13 +2,15 @@
 
 #![tactic(auto)]
 
-ghost use Rattle.std.specs.Prelude.{◌≡◌, ℕ, ◌<◌, ◌≤◌, false, length, if◌then◌else◌, Some};
+ghost use Rattle.std.specs.Prelude.{◌≡◌, ℕ, ◌<◌, false, length};
 ghost use Rattle.ranks.specs.Numbers.{rank_in, share_rank};
-ghost use Rattle.ranks.specs.RankOrder.{strength_at, if_known, strength_of, precedes as precedes_by, ranks_before, rank_number, rank_list, Orders};
+ghost use Rattle.ranks.specs.RankOrder.{strength_of, precedes as precedes_by, ranks_before, rank_number, rank_list, Orders};
 
 pub use meaning::RULES;
+use meaning::Ranking;
 use meaning::masks::has_bit;
-use meaning::{Order, Ranking};
+use std::array;
+use std::cmp::Ordering;
 
 /// A rank number below 64 for each of the sixty-four rules, no two the same.
 #[derive(Clone, Copy)]
@@ -27,11 +29,14 @@ impl Ranks {
         ensures value { result.of ≡ rank_list (R.meaning ranking.now) strengths.now standing }
         ensures orders { Orders (R.meaning ranking.now) strengths.now standing (rank_in result.of) }
     {
-        let mut of = [0; RULES];
-        for x in 0..64u8 {
-            of[usize::from(x)] = rank_number(ranking, strengths, standing, x);
+        let order = RankOrder {
+            ranking,
+            strengths,
+            standing,
+        };
+        Ranks {
+            of: array::from_fn(|x| order.rank_number(x as u8)),
         }
-        Ranks { of }
     }
 
     /// The rank numbers, by rule.
@@ -42,98 +47,61 @@ impl Ranks {
     }
 }
 
-/// The strength by which a rule ranks.
-fn strength_of<R: Ranking>(
-    ranking: &R,
-    strengths: &[R::Strength],
+/// What orders the rules: a ranking, the table of their strengths, and the mask of those that stand.
+#[derive(Drop)]
+struct RankOrder<'a, R: Ranking> {
+    ranking: &'a R,
+    strengths: &'a [R::Strength],
     standing: u64,
-    x: u8,
-) -> Option<R::Strength>
-    ensures { result ≡ strength_of (R.meaning ranking.now) strengths.now standing x }
-{
-    if !has_bit(standing, x) {
-        return None;
-    }
-    match strength_at(strengths, usize::from(x)) {
-        Some(strength) => if_known(ranking, strength),
-        None => None,
-    }
 }
 
-/// A strength, if the ranking knows it.
-fn if_known<R: Ranking>(ranking: &R, strength: R::Strength) -> Option<R::Strength>
-    ensures { result ≡ if_known (R.meaning ranking.now) (Some strength) }
-{
-    if ranking.knows(strength) {
-        Some(strength)
-    } else {
-        None
+impl<R: Ranking> RankOrder<'_, R> {
+    /// The strength by which a rule ranks.
+    fn strength(&self, x: u8) -> Option<R::Strength>
+        ensures { result ≡ strength_of (R.meaning self.now.ranking.now) self.now.strengths.now self.now.standing x }
+    {
+        if !has_bit(self.standing, x) {
+            return None;
+        }
+        self.strengths
+            .get(usize::from(x))
+            .copied()
+            .filter(|strength| self.ranking.knows(*strength))
     }
-}
 
-/// An entry of a table of strengths, if the table has it.
-fn strength_at<S: Copy>(strengths: &[S], n: usize) -> Option<S>
-    ensures { result ≡ strength_at strengths.now n }
-{
-    if n < strengths.len() {
-        Some(strengths[n])
-    } else {
-        None
+    /// Whether rule x, of the first strength, ranks before rule y, of the second.
+    fn precedes(
+        &self,
+        first: Option<R::Strength>,
+        x: u8,
+        second: Option<R::Strength>,
+        y: u8,
+    ) -> bool
+        ensures { result ≡ precedes_by (R.meaning self.now.ranking.now) first x second y }
+    {
+        match (first, second) {
+            (Some(a), Some(b)) => match self.ranking.compare(a, b) {
+                Ordering::Less => true,
+                Ordering::Equal => x < y,
+                Ordering::Greater => false,
+            },
+            (Some(_), None) => true,
+            (None, Some(_)) => false,
+            (None, None) => x < y,
+        }
     }
-}
 
-/// Whether rule x, of the first strength, ranks before rule y, of the second.
-fn precedes<R: Ranking>(
-    ranking: &R,
-    first: Option<R::Strength>,
-    x: u8,
-    second: Option<R::Strength>,
-    y: u8,
-) -> bool
-    ensures { result ≡ precedes_by (R.meaning ranking.now) first x second y }
-{
-    match (first, second) {
-        (Some(a), Some(b)) => match ranking.compare(a, b) {
-            Order::Before => true,
-            Order::Level => x < y,
-            Order::After => false,
-        },
-        (Some(_), None) => true,
-        (None, Some(_)) => false,
-        (None, None) => x < y,
+    /// Whether rule x ranks before rule y.
+    fn ranks_before(&self, x: u8, y: u8) -> bool
+        ensures { result ≡ ranks_before (R.meaning self.now.ranking.now) self.now.strengths.now self.now.standing x y }
+    {
+        self.precedes(self.strength(x), x, self.strength(y), y)
     }
-}
 
-/// Whether rule x ranks before rule y.
-fn ranks_before<R: Ranking>(
-    ranking: &R,
-    strengths: &[R::Strength],
-    standing: u64,
-    x: u8,
-    y: u8,
-) -> bool
-    ensures { result ≡ ranks_before (R.meaning ranking.now) strengths.now standing x y }
-{
-    let first = strength_of(ranking, strengths, standing, x);
-    let second = strength_of(ranking, strengths, standing, y);
-    precedes(ranking, first, x, second, y)
-}
-
-/// 1 for true, 0 for false.
-fn one_if(test: bool) -> u8
-    ensures value { result ≡ (if test then 1 else 0) }
-    ensures bound { result ≤ 1 }
-{
-    if test { 1 } else { 0 }
-}
-
-/// The rank number of a rule: how many rules rank before it.
-fn rank_number<R: Ranking>(ranking: &R, strengths: &[R::Strength], standing: u64, x: u8) -> u8
-    ensures { result ≡ rank_number (R.meaning ranking.now) strengths.now standing x }
-{
-    let mut count = 0;
-    for y in 0..64u8 {
-        count += one_if(ranks_before(ranking, strengths, standing, y, x));
+    /// The rank number of a rule: how many rules rank before it.
+    fn rank_number(&self, x: u8) -> u8
+        ensures { result ≡ rank_number (R.meaning self.now.ranking.now) self.now.strengths.now self.now.standing x }
+    {
+        (0..64u8).filter(|y| self.ranks_before(*y, x)).count() as u8
     }
-    count
 }

@@ -2,9 +2,13 @@
 use Rattle.std.proofs.Common.{◌≡◌, ℕ, zero, suc, ◌<◌, ◌≤◌, true, false, ◌&&◌, eqb, ltb, leb, ◌⊎◌, List, [], ◌∷◌, length, get_or, sym, refl, ap, ◌∙◌, subst, inl, inr, ⊎_elim, arith}
 use Rattle.std.specs.List.{list_all}
 use lib.Bits.{and_zero_l, and_zero_r, and_comm}
-use Rattle.std.proofs.lemmas.List.{get_or_past, get_or_default}
+use Rattle.std.proofs.lemmas.List.{get_or_past, get_or_default, ext_get_or}
+use Rattle.std.specs.Array.{IsFromFnResult}
+use Rattle.std.specs.Fn.{Called}
+use denote.Param.Members.{Mut}
 use Rattle.std.proofs.lemmas.Bool.{both_ways, cases_lt, cases_Bool, and_parts, eqb-true, ltb-true, lt-ltb}
 use Rattle.meaning.specs.Masks.{bit}
+use Rattle.meaning.proofs.FromFn.{from_fn_at}
 use Rattle.meaning.proofs.Lists.{every_at}
 use Rattle.placing.specs.declared.rules.Rule.{Rule}
 use Rattle.placing.specs.declared.rules.State.{State}
@@ -15,6 +19,7 @@ use Rattle.placing.specs.Board.{no_way, no_rule, cells_of, mask_of, lawful_way, 
 use Rattle.placing.specs.Choice.{Choosable}
 use Rattle.placing.specs.Search.{is_fresh, fresh_at, marked, applied}
 use Rattle.placing.specs.Laws.{IsBoard, Placed}
+use Rattle.placing.proofs.States.{force_standing, waiting_standing}
 use Rattle.placing.proofs.Givers.{InForceAt, On, mask_cell}
 use Rattle.placing.proofs.Sound.{Kept}
 
@@ -30,6 +35,11 @@ pub applied_length : (states : List State) (marks : List Mark) → length (appli
 applied_length [] marks = refl
 applied_length (s ∷ states) [] = refl
 applied_length (s ∷ states) (m ∷ marks) = omega (arith, applied_length states marks)
+
+-- The table of the states as their marks make them.
+pub applied_made : {F : Type 0} (g : Mut F (ℕ × Unit {0}) State) (f : F) (states : List State) (marks : List Mark) (after : List State) → length states ≡ 64 → length marks ≡ 64 → IsFromFnResult g f after 64 → ((i : ℕ) (y : State) (q : F) → Called g f (i, tt) y q → (y ≡ marked (get_or states i Absent) (get_or marks i PutOut)) × (q ≡ f)) → after ≡ applied states marks
+applied_made g f states marks after es em made each =
+    ext_get_or Absent after (applied states marks) (made.long ∙ sym (applied_length states marks ∙ es)) (λ i lt. from_fn_at g (λ x. marked (get_or states x Absent) (get_or marks x PutOut)) f each after 64 made i Absent (omega (arith, made.long)) ∙ ap (marked (get_or states i Absent)) (get_or_default marks i PutOut Fresh (omega (arith, made.long, em))) ∙ sym (applied_at states marks i (es ∙ sym em)))
 
 -- A rule in force has a number below 64.
 pub in_force_small : (rules : List Rule) (states : List State) → length states ≡ 64 → (x : ℕ) → InForceAt rules states x → x < 64
@@ -77,16 +87,6 @@ by_mark : {G : Type 0} (m : Mark) → (m ≡ PutOut → G) → (m ≡ Fresh → 
 by_mark PutOut out fresh tried = out refl
 by_mark Fresh out fresh tried = fresh refl
 by_mark (Tried i) out fresh tried = tried i refl
-
-force_standing : (s : State) → is_in_force s ≡ true → is_standing s ≡ true
-force_standing Absent h = h
-force_standing Waiting h = refl
-force_standing (InForce i) h = refl
-
-waiting_standing : (s : State) → is_waiting s ≡ true → is_standing s ≡ true
-waiting_standing Absent h = h
-waiting_standing Waiting h = refl
-waiting_standing (InForce i) h = refl
 
 pub gives_nothing : (rules : List Rule) (x : ℕ) (s : State) → is_in_force s ≡ false → given_by rules x s ≡ 0
 gives_nothing rules x Absent h = refl

@@ -46,7 +46,7 @@ module _ (rules : List Rule) (states : List State) (rank : ℕ → ℕ) (r : ℕ
 
   mutual
     pub leads_complete : {pile : List ℕ} {marks : List Mark} {taken : ℕ} {o : Option (List Mark)} → Leads rules states rank r pile marks taken o → o ≡ None → AllByRecursion Piled pile → Clear marks taken → ⊥
-    leads_complete Leads.empty e all clear = let z : ◌≡◌ {A = ℕ} 0 1 = cc in omega arith
+    leads_complete Leads.empty e all clear = cc
     leads_complete (Leads.over d a) e all clear = leads_complete a e all.1 clear
     leads_complete {marks = marks} {taken = taken} (Leads.out {x = x} d f a) e all clear = leads_complete a e all.1 (clear_put_out marks taken x clear)
     leads_complete (Leads.try {x = x} d f t) e all clear = tries_complete t e refl (in_set x all.0 f) d (omega arith) all.1 clear
@@ -57,7 +57,7 @@ module _ (rules : List Rule) (states : List State) (rank : ℕ → ℕ) (r : ℕ
         let front = drop_front (listed rules x) i no_way way ways at in
         let free : i ≡ pick x → ⊥ = λ q. both_ways _ b (eq-eqb _ 0 (subst (λ (w : Way). Apart taken w.mask) front.0 (subst (λ (k : ℕ). Apart taken (way_mask rules x k)) (sym q) (clear x s f)))) in
         tries_complete t e front.1 s f (omega arith) all clear
-    tries_complete (Tries.leads b a) e at s f le all clear = let z : ◌≡◌ {A = ℕ} 0 1 = cc in omega arith
+    tries_complete (Tries.leads b a) e at s f le all clear = cc
     tries_complete {x} {marks = marks} {taken = taken} {i = i} (Tries.fails {way = way} {ways = ways} b a t) e at s f le all clear =
         let front = drop_front (listed rules x) i no_way way ways at in
         let onto = piled_all rules states Piled (λ y h. inr h) (cells_of way) _ all in

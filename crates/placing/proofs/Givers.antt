@@ -1,16 +1,17 @@
 -- Who gives a cell, and what the givers of a way's outputs put on the pile.
-use Rattle.std.proofs.Common.{◌≡◌, ℕ, zero, suc, ◌+◌, ◌-◌, ◌^◌, ◌<◌, ◌≤◌, true, false, ◌⊎◌, List, [], ◌∷◌, ◌++◌, length, get_or, drop, sym, refl, ap, ◌∙◌, subst, inl, inr, ⊎_elim, add-one, arith}
-use Rattle.std.specs.List.{AllByRecursion}
-use Rattle.std.proofs.lemmas.List.{drop_more, drop_all}
+use Rattle.std.proofs.Common.{◌≡◌, ℕ, zero, suc, ◌+◌, ◌^◌, ◌<◌, ◌≤◌, Bool, true, false, cond, ◌⊎◌, List, [], ◌∷◌, ◌++◌, length, get_or, drop, Some, None, Option, sym, refl, ap, ◌∙◌, subst, inl, inr, ⊎_elim, add-one, arith}
+use Rattle.std.specs.Option.{option_map}
+use Rattle.std.specs.List.{AllByRecursion, find, range_with_len}
+use Rattle.std.proofs.lemmas.List.{drop_more}
 use Rattle.std.proofs.ByRecursion.{All-append}
-use Rattle.std.proofs.lemmas.Bool.{cond_both, cond-true, cond-false, cases_eq, or_cases, both_ways}
+use Rattle.std.proofs.lemmas.Bool.{cond_both, cases_eq, or_cases, both_ways}
 use Rattle.meaning.specs.Masks.{bit}
 use Rattle.meaning.proofs.MaskBits.{no_bit_of_0, bit_of_or, power_bit, apart_bits}
 use Rattle.placing.specs.declared.rules.Rule.{Rule}
 use Rattle.placing.specs.declared.rules.State.{State}
 use Rattle.placing.specs.declared.rules.State.TheVariants.{Absent, Waiting, InForce}
 use Rattle.placing.specs.Board.{state_of, is_in_force, given_by, gives, mask_of, NoTwoGivers}
-use Rattle.placing.specs.Search.{giver_from, giver, piled}
+use Rattle.placing.specs.Search.{giver_from, giver, piled, one_of}
 
 -- A rule that gives a cell is in force.
 giving_state : (rules : List Rule) (x : ℕ) (s : State) (c : ℕ) → bit (given_by rules x s) c ≡ true → is_in_force s ≡ true
@@ -38,8 +39,10 @@ module _ (rules : List Rule) (states : List State) where
       all_each [] h = tt
       all_each (x ∷ xs) h = (each x h.0, all_each xs h.1)
 
-less : (x n : ℕ) → x < n → n - x ≡ suc (n - suc x)
-less x n lt = omega arith
+-- A rule that is found here or further on, as a list.
+one_of_either : (here : Bool) (x : ℕ) (later : Option ℕ) {xs : List ℕ} → one_of later ≡ xs → one_of (cond here (Some x) later) ≡ cond here (x ∷ []) xs
+one_of_either true x later e = refl
+one_of_either false x later e = e
 
 -- x stands on the list.
 abbrev pub On : ℕ → List ℕ → Type 0
@@ -85,35 +88,19 @@ module _ (rules : List Rule) (states : List State) where
   pub giver_found : NoTwoGivers rules states → (c y : ℕ) → y < 64 → bit (gives rules states y) c ≡ true → On y (giver rules states c)
   giver_found one c y lt h = found_from one c 0 y 64 (omega arith) (omega arith) h
 
-  -- One step of the search for a giver: here, further on, or nowhere.
-  giver_first : (c x k : ℕ) → bit (gives rules states x) c ≡ true → giver_from rules states c x (suc k) ≡ x ∷ []
+  -- The giver is the first rule that gives the cell.
+  giver_first : (c x n : ℕ) → one_of (find (λ y. bit (gives rules states y) c) (range_with_len x n)) ≡ giver_from rules states c x n
   unfolding giver_from
-  giver_first c x k h = cond-true (bit (gives rules states x) c) _ _ h
+  giver_first c x zero = refl
+  giver_first c x (suc n) = one_of_either (bit (gives rules states x) c) x (find (λ y. bit (gives rules states y) c) (range_with_len (x + 1) n)) (giver_first c (x + 1) n) ∙ ap (λ (k : ℕ). cond (bit (gives rules states x) c) (x ∷ []) (giver_from rules states c k n)) (add-one x)
 
-  giver_later : (c x k : ℕ) → bit (gives rules states x) c ≡ false → giver_from rules states c x (suc k) ≡ giver_from rules states c (suc x) k
-  unfolding giver_from
-  giver_later c x k h = cond-false (bit (gives rules states x) c) _ _ h
-
-  giver_nowhere : (c x : ℕ) → [] ≡ giver_from rules states c x 0
-  unfolding giver_from
-  giver_nowhere c x = refl
-
-  pub giver_here : (c x n : ℕ) → x < n → bit (gives rules states x) c ≡ true → giver_from rules states c x (n - x) ≡ x ∷ []
-  giver_here c x n lt h = ap (giver_from rules states c x) (less x n lt) ∙ giver_first c x (n - suc x) h
-
-  pub giver_on : (c x n : ℕ) → x < n → bit (gives rules states x) c ≡ false → giver_from rules states c (x + 1) (n - (x + 1)) ≡ giver_from rules states c x (n - x)
-  giver_on c x n lt h =
-      ap (λ k. giver_from rules states c k (n - k)) (add-one x) ∙ sym (ap (giver_from rules states c x) (less x n lt) ∙ giver_later c x (n - suc x) h)
-
-  pub giver_end : (c x n : ℕ) → n ≤ x → [] ≡ giver_from rules states c x (n - x)
-  giver_end c x n le = giver_nowhere c x ∙ ap (giver_from rules states c x) (omega arith)
+  pub giver_is_first : (c : ℕ) (o : Option ℕ) → option_map (λ x. x) o ≡ find (λ y. bit (gives rules states y) c) (range_with_len 0 64) → one_of o ≡ giver rules states c
+  giver_is_first c None e = ap one_of e ∙ giver_first c 0 64
+  giver_is_first c (Some x) e = ap one_of e ∙ giver_first c 0 64
 
   -- Piling cell by cell.
   pub piled_step : (cs pile : List ℕ) (i : ℕ) → i < length cs → piled rules states (drop i cs) pile ≡ piled rules states (drop (i + 1) cs) (giver rules states (get_or cs i 0) ++ pile)
   piled_step cs pile i lt = ap (λ (ds : List ℕ). piled rules states ds pile) (drop_more cs i 0 lt)
-
-  pub piled_end : (cs pile : List ℕ) (i : ℕ) → length cs ≤ i → piled rules states (drop i cs) pile ≡ pile
-  piled_end cs pile i le = ap (λ (ds : List ℕ). piled rules states ds pile) (drop_all i cs le)
 
   pub piled_again : (cs pile higher target : List ℕ) (i : ℕ) → i < length cs → higher ≡ giver rules states (get_or cs i 0) ++ pile → piled rules states (drop i cs) pile ≡ target → piled rules states (drop (i + 1) cs) higher ≡ target
   piled_again cs pile higher target i lt e h = ap (piled rules states (drop (i + 1) cs)) e ∙ sym (piled_step cs pile i lt) ∙ h

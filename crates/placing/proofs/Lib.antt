@@ -1,5 +1,7 @@
 pub mod Single
+pub mod States
 pub mod Marks
+pub mod Masks
 pub mod Givers
 pub mod Complete
 pub mod Sound
@@ -10,3 +12,4 @@ pub mod Writing
 pub mod OneResult
 pub mod Steps
 pub mod Empty
+pub mod Shown

@@ -23,14 +23,14 @@ fresh_before marks x y m e h =
 
 -- The front of what is left of a list from an index on, and what is left behind it.
 pub drop_front : {X : Type 0} (xs : List X) (i : ℕ) (d y : X) (ys : List X) → drop i xs ≡ y ∷ ys → (get_or xs i d ≡ y) × (drop (suc i) xs ≡ ys)
-drop_front [] zero d y ys e = let z : ◌≡◌ {A = ℕ} 0 1 = cc in absurd (omega arith)
-drop_front [] (suc i) d y ys e = let z : ◌≡◌ {A = ℕ} 0 1 = cc in absurd (omega arith)
+drop_front [] zero d y ys e = cc
+drop_front [] (suc i) d y ys e = cc
 drop_front (x ∷ xs) zero d y ys e = (cc, cc)
 drop_front (x ∷ xs) (suc i) d y ys e = drop_front xs i d y ys e
 
 pub drop_none : {X : Type 0} (xs : List X) (i : ℕ) → drop i xs ≡ [] → length xs ≤ i
 drop_none [] i e = omega arith
-drop_none (x ∷ xs) zero e = let z : ◌≡◌ {A = ℕ} 0 1 = cc in absurd (omega arith)
+drop_none (x ∷ xs) zero e = cc
 drop_none (x ∷ xs) (suc i) e = omega (arith, drop_none xs i e)
 
 -- A fresh rule is within the marks.
@@ -44,8 +44,8 @@ read_back marks x y m n within h =
     ⊎_elim (λ e. inl (e, sym (get_or-set_same marks x m PutOut within) ∙ ap (λ k. get_or (set marks x m) k PutOut) (sym e) ∙ h)) (λ ne. inr (ne, sym (get_or-set_other marks x y m PutOut ne) ∙ h)) (cases_eq y x)
 
 pub drop_within : {X : Type 0} (xs : List X) (i : ℕ) (y : X) (ys : List X) → drop i xs ≡ y ∷ ys → i < length xs
-drop_within [] zero y ys e = let z : ◌≡◌ {A = ℕ} 0 1 = cc in absurd (omega arith)
-drop_within [] (suc i) y ys e = let z : ◌≡◌ {A = ℕ} 0 1 = cc in absurd (omega arith)
+drop_within [] zero y ys e = cc
+drop_within [] (suc i) y ys e = cc
 drop_within (x ∷ xs) zero y ys e = omega arith
 drop_within (x ∷ xs) (suc i) y ys e = omega (arith, drop_within xs i y ys e)
 
@@ -55,3 +55,6 @@ fresh_less [] zero m e h = absurd (both_ways _ refl h)
 fresh_less [] (suc x) m e h = absurd (both_ways _ refl h)
 fresh_less (n ∷ marks) zero m e h = rw (e, h) (omega arith)
 fresh_less (n ∷ marks) (suc x) m e h = omega (arith, fresh_less marks x m e h)
+
+pub marked_less : (marks : List Mark) {after : List Mark} (x : ℕ) (m : Mark) → after ≡ set marks x m → is_fresh m ≡ false → fresh_at marks x ≡ true → fresh_count after + 1 ≡ fresh_count marks
+marked_less marks x m written e h = ap (λ (n : List Mark). fresh_count n + 1) written ∙ fresh_less marks x m e h

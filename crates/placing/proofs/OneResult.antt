@@ -1,25 +1,20 @@
 -- Two settled boards with the same rules have the same rules in force.
-use Rattle.std.proofs.Common.{◌≡◌, ℕ, zero, suc, ◌<◌, Bool, true, false, List, sym, refl, ap, ◌∙◌, inl, inr, ⊎_elim, arith}
-use Rattle.std.proofs.lemmas.Bool.{both_ways, cases_Bool}
+use Rattle.std.proofs.Common.{◌≡◌, ℕ, zero, suc, ◌<◌, Bool, true, false, List, sym, refl, ap, ◌∙◌, inl, inr, arith}
 use Rattle.placing.specs.declared.rules.Rule.{Rule}
 use Rattle.placing.specs.declared.rules.State.{State}
-use Rattle.placing.specs.Board.{listed, state_of, is_standing, is_waiting, is_in_force}
+use Rattle.placing.specs.Board.{listed, state_of, is_standing, is_in_force}
 use Rattle.placing.specs.Choice.{WithBetter, Settled}
 use Rattle.placing.specs.Laws.{Alike, OneResult}
-use Rattle.placing.proofs.Settling.{choice_for, force_stands, neither_stands}
+use Rattle.placing.proofs.States.{force_standing, in_force_or_waits}
+use Rattle.placing.proofs.Settling.{choice_for}
 
 -- Who is in force is the same on both boards before x, so it is the same of x.
 module _ (rules : List Rule) (states : List State) (rank : ℕ → ℕ) (rules' : List Rule) (states' : List State) (rank' : ℕ → ℕ) (alike : Alike rules states rank rules' states' rank') (settled : Settled rules states rank) (settled' : Settled rules' states' rank') where
   stands : (x : ℕ) → is_in_force (state_of states x) ≡ true → is_standing (state_of states x) ≡ true
-  stands x f = ⊎_elim (λ h. h) (λ h. absurd (force_stands (state_of states x) h f)) (cases_Bool (is_standing (state_of states x)))
+  stands x f = force_standing (state_of states x) f
 
   stands' : (x : ℕ) → is_in_force (state_of states' x) ≡ true → is_standing (state_of states x) ≡ true
-  stands' x f = ⊎_elim (λ h. h) (λ h. absurd (force_stands (state_of states' x) (sym (alike.standing x) ∙ h) f)) (cases_Bool (is_standing (state_of states x)))
-
-  -- A rule that stands and does not wait is in force.
-  in_force_or_waits : (s : State) → is_standing s ≡ true → (is_waiting s ≡ true → ⊥) → is_in_force s ≡ true
-  in_force_or_waits s h never =
-      ⊎_elim (λ f. f) (λ f. ⊎_elim (λ w. absurd (never w)) (λ w. absurd (both_ways _ (neither_stands s w f) h)) (cases_Bool (is_waiting s))) (cases_Bool (is_in_force s))
+  stands' x f = alike.standing x ∙ force_standing (state_of states' x) f
 
   module _ (x : ℕ) (before : (z : ℕ) → rank z < rank x → is_in_force (state_of states z) ≡ is_in_force (state_of states' z)) (sx : is_standing (state_of states x) ≡ true) where
     there : (z : ℕ) → WithBetter states rank x z → WithBetter states' rank' x z

@@ -1,5 +1,5 @@
 -- The laws of placing, put together.
-use Rattle.std.proofs.Common.{◌≡◌, ℕ, ◌<◌, ◌≤◌, true, false, ◌⊎◌, List, [], ◌∷◌, get_or, replicate, sym, refl, ap, ◌∙◌, inl, inr, ⊎_elim, arith}
+use Rattle.std.proofs.Common.{◌≡◌, ℕ, ◌<◌, ◌≤◌, true, false, ◌⊎◌, List, [], ◌∷◌, get_or, replicate, refl, ap, ◌∙◌, inl, inr, ⊎_elim, arith}
 use lib.Bits.{and_zero_l}
 use lib.ListN.{get_or-replicate, length-replicate}
 use Rattle.std.proofs.lemmas.List.{get_or_past}
@@ -22,17 +22,8 @@ start_mark : (x : ℕ) → (get_or (replicate 64 Fresh) x PutOut ≡ Fresh) ⊎ 
 start_mark x =
     ⊎_elim (λ lt. inl (get_or-replicate 64 x Fresh PutOut lt)) (λ le. inr (le, get_or_past (replicate 64 Fresh) x PutOut (omega (arith, length-replicate 64 Fresh)))) (cases_lt x 64)
 
-fresh_not_tried : {i : ℕ} → Fresh ≡ Tried i → ⊥
-fresh_not_tried e = let z : ◌≡◌ {A = ℕ} 0 1 = cc in omega arith
-
-out_not_tried : {i : ℕ} → PutOut ≡ Tried i → ⊥
-out_not_tried e = let z : ◌≡◌ {A = ℕ} 0 1 = cc in omega arith
-
-fresh_not_out : Fresh ≡ PutOut → ⊥
-fresh_not_out e = let z : ◌≡◌ {A = ℕ} 0 1 = cc in omega arith
-
 none_tried : (x i : ℕ) → get_or (replicate 64 Fresh) x PutOut ≡ Tried i → ⊥
-none_tried x i t = ⊎_elim (λ e. fresh_not_tried (sym e ∙ t)) (λ e. out_not_tried (sym e.1 ∙ t)) (start_mark x)
+none_tried x i t = ⊎_elim (λ e. cc) (λ e. let out = e.1 in cc) (start_mark x)
 
 module _ (rules : List Rule) (states : List State) (rank : ℕ → ℕ) (r : ℕ) (b : IsBoard rules states) (distinct : Distinct rank) (small : r < 64) (waits : is_waiting (state_of states r) ≡ true) where
   start_kept : Kept rules states rank r (r ∷ []) (replicate 64 Fresh) 0
@@ -44,7 +35,7 @@ module _ (rules : List Rule) (states : List State) (rank : ℕ → ℕ) (r : ℕ
     tried_from = λ x i t. absurd (none_tried x i t);
     fresh_apart = λ x _ _. inl (and_zero_l (gives rules states x));
     placed_on = λ _. inl refl;
-    put_out_after = λ x lt o. ⊎_elim (λ e. absurd (fresh_not_out (sym e ∙ o))) (λ e. absurd (omega (arith, e.0))) (start_mark x);
+    put_out_after = λ x lt o. ⊎_elim (λ e. cc) (λ e. absurd (omega (arith, e.0))) (start_mark x);
     piled_from = (inl refl, tt);
   }
 

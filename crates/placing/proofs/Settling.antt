@@ -10,9 +10,9 @@ use Rattle.placing.specs.Board.{no_way, listed, way_mask, state_of, is_standing,
 use Rattle.placing.specs.Choice.{Choosable, WithBetter, SettledAt}
 use Rattle.placing.specs.Search.{Places}
 use Rattle.placing.specs.Calls.{Passes}
-use Rattle.placing.specs.Laws.{IsBoard}
+use Rattle.placing.specs.Laws.{IsBoard, EmptyIsSettled}
 use Rattle.ranks.specs.Numbers.{Distinct}
-use Rattle.placing.proofs.Single.{not_both}
+use Rattle.placing.proofs.States.{force_standing, waiting_standing, neither_stands, not_both}
 use Rattle.placing.proofs.After.{force_choice}
 use Rattle.placing.proofs.Placing.{placing_is_lawful}
 
@@ -27,24 +27,9 @@ choice_for rules rules' InSet InSet' smaller same (pick, choice) =
       },
     )
 
--- A rule stands if it waits or is in force, and only then.
-waiting_stands : (s : State) → is_standing s ≡ false → is_waiting s ≡ true → ⊥
-waiting_stands Absent n w = both_ways _ refl w
-waiting_stands Waiting n w = both_ways _ n refl
-waiting_stands (InForce i) n w = both_ways _ refl w
-
-pub force_stands : (s : State) → is_standing s ≡ false → is_in_force s ≡ true → ⊥
-force_stands Absent n f = both_ways _ refl f
-force_stands Waiting n f = both_ways _ refl f
-force_stands (InForce i) n f = both_ways _ n refl
-
-pub neither_stands : (s : State) → is_waiting s ≡ false → is_in_force s ≡ false → is_standing s ≡ false
-neither_stands Absent w f = refl
-neither_stands Waiting w f = absurd (both_ways _ w refl)
-neither_stands (InForce i) w f = absurd (both_ways _ f refl)
-
+-- States that agree on standing and on being in force agree on waiting.
 pub waiting_from : (s t : State) → is_standing s ≡ is_standing t → is_in_force s ≡ is_in_force t → is_waiting t ≡ true → is_waiting s ≡ true
-waiting_from Absent t e f w = absurd (waiting_stands t (sym e) w)
+waiting_from Absent t e f w = absurd (both_ways _ (sym e) (waiting_standing t w))
 waiting_from Waiting t e f w = refl
 waiting_from (InForce i) t e f w = absurd (not_both t w (sym f))
 
@@ -67,9 +52,13 @@ module _ (rank : ℕ → ℕ) (rules rules' : List Rule) (s t : List State) (x :
 -- A rule that does not stand is settled, and one in force is: the ways in force are a choice.
 pub settled_absent : (rules : List Rule) (s : List State) (rank : ℕ → ℕ) (x : ℕ) → is_standing (state_of s x) ≡ false → SettledAt rules s rank x
 settled_absent rules s rank x n = record {
-  none = λ w _. waiting_stands (state_of s x) n w;
-  some = λ f. absurd (force_stands (state_of s x) n f);
+  none = λ w _. both_ways _ n (waiting_standing (state_of s x) w);
+  some = λ f. absurd (both_ways _ n (force_standing (state_of s x) f));
 }
+
+-- So a board without standing rules is settled.
+pub empty_settled : EmptyIsSettled
+empty_settled rules states rank none x = settled_absent rules states rank x (none x)
 
 settled_in_force : (rules : List Rule) (s : List State) (rank : ℕ → ℕ) (x : ℕ) → IsBoard rules s → is_in_force (state_of s x) ≡ true → SettledAt rules s rank x
 settled_in_force rules s rank x b f = record {

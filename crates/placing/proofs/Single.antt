@@ -1,29 +1,24 @@
 -- A search, a placing, a pass and a call have at most one answer.
-use Rattle.std.proofs.Common.{◌≡◌, ℕ, suc, Bool, true, List, set, Some, None, Option, sym, refl, ap, ◌∙◌, subst, arith}
+use Rattle.std.proofs.Common.{◌≡◌, ℕ, suc, Bool, List, set, Some, None, Option, sym, refl, ap, ◌∙◌, subst}
 use Rattle.std.proofs.lemmas.Bool.{both_ways}
 use Rattle.ranks.specs.Numbers.{Distinct}
 use Rattle.placing.specs.declared.rules.Way.{Way}
 use Rattle.placing.specs.declared.rules.Rule.{Rule}
 use Rattle.placing.specs.declared.rules.State.{State}
-use Rattle.placing.specs.declared.rules.State.TheVariants.{Absent, Waiting, InForce}
+use Rattle.placing.specs.declared.rules.State.TheVariants.{Waiting}
 use Rattle.placing.specs.declared.rules.Mark.{Mark}
-use Rattle.placing.specs.Board.{state_of, is_waiting, is_in_force}
+use Rattle.placing.specs.Board.{state_of}
 use Rattle.placing.specs.Search.{applied, Leads, Tries, Places}
 use Rattle.placing.specs.Calls.{Passes, PassesBehind, Adds, Removes}
 use Rattle.placing.specs.Laws.{CallsAreSingle}
+use Rattle.placing.proofs.States.{not_both}
 
 -- A value that is there is not a value that is not, and two that are there are equal if they are equal as answers.
 pub some_none : {X : Type 0} {x : X} → Some x ≡ None → ⊥
-some_none e = let z : ◌≡◌ {A = ℕ} 0 1 = cc in omega arith
+some_none e = cc
 
 pub some_same : {X : Type 0} {x y : X} → Some x ≡ Some y → x ≡ y
 some_same e = cc
-
--- No rule waits and is in force.
-pub not_both : (s : State) → is_waiting s ≡ true → is_in_force s ≡ true → ⊥
-not_both Absent w f = both_ways _ refl w
-not_both Waiting w f = both_ways _ refl f
-not_both (InForce i) w f = both_ways _ refl w
 
 module _ (rules : List Rule) (states : List State) (rank : ℕ → ℕ) (r : ℕ) where
   mutual

@@ -64,7 +64,7 @@ module _ (rules : List Rule) (states : List State) (rank : ℕ → ℕ) (r : ℕ
       }
 
   tried_is_not_out : (i : ℕ) → Tried i ≡ PutOut → ⊥
-  tried_is_not_out i e = let z : ◌≡◌ {A = ℕ} 0 1 = cc in omega arith
+  tried_is_not_out i e = cc
 
   -- Putting out a rule that ranks after the placed one.
   kept_out : {x : ℕ} {pile : List ℕ} {marks : List Mark} {taken : ℕ} → fresh_at marks x ≡ true → ltb (rank r) (rank x) ≡ true → Kept (x ∷ pile) marks taken → Kept pile (set marks x PutOut) taken
@@ -125,7 +125,7 @@ module _ (rules : List Rule) (states : List State) (rank : ℕ → ℕ) (r : ℕ
       leads_kept (Leads.try d f t) k found e = tries_kept t refl d k found e
 
       tries_kept : {x : ℕ} {pile : List ℕ} {marks : List Mark} {taken : ℕ} {ways : List Way} {i : ℕ} {o : Option (List Mark)} → Tries rules states rank r x pile marks taken ways i o → drop i (listed rules x) ≡ ways → fresh_at marks x ≡ true → Kept (x ∷ pile) marks taken → (found : List Mark) → o ≡ Some found → (end : ℕ) × Kept [] found end
-      tries_kept Tries.spent at f k found e = let z : ◌≡◌ {A = ℕ} 0 1 = cc in absurd (omega arith)
+      tries_kept Tries.spent at f k found e = cc
       tries_kept {x} {i = i} (Tries.barred {way = way} {ways = ways} b t) at f k found e = tries_kept t (drop_front (listed rules x) i no_way way ways at).1 f k found e
       tries_kept {x} {pile} {marks} {taken} {i = i} (Tries.leads {way = way} {ways = ways} b a) at f k found e =
           let front = (drop_front (listed rules x) i no_way way ways at).0 in

@@ -1,34 +1,27 @@
 -- The steps of a search over a pile that lies in an array and over ways by their index.
-use Rattle.std.proofs.Common.{◌≡◌, ℕ, suc, ◌+◌, ◌-◌, ◌<◌, ◌≤◌, Bool, true, false, cond, ◌||◌, eqb, ltb, List, ◌∷◌, length, get_or, drop, set, Some, None, Option, sym, refl, ap, ◌∙◌, subst, add-one, arith}
+use Rattle.std.proofs.Common.{◌≡◌, ℕ, zero, suc, ◌+◌, ◌-◌, ◌<◌, ◌≤◌, Bool, true, false, cond, ◌&&◌, ◌||◌, eqb, List, ◌∷◌, length, get_or, drop, set, Some, None, Option, sym, refl, ap, ◌∙◌, subst, add-one, arith}
 use lib.Bits.{bit_and, bit_or}
-use Rattle.std.proofs.lemmas.List.{drop_more, drop_all}
+use Rattle.std.specs.Prelude.{MatchOption, not, count_by}
+use Rattle.std.specs.List.{range_with_len}
+use Rattle.std.proofs.lemmas.List.Sums.{sum_by-cons}
+use Rattle.std.proofs.lemmas.List.{drop_more, drop_all, get_or_default}
+use Rattle.std.proofs.lemmas.Bool.{both_ways, and_parts, eqb-true, eq-eqb}
 use Rattle.placing.specs.declared.rules.Way.{Way}
 use Rattle.placing.specs.declared.rules.Rule.{Rule}
 use Rattle.placing.specs.declared.rules.State.{State}
-use Rattle.placing.specs.declared.rules.State.TheVariants.{Absent, Waiting, InForce}
+use Rattle.placing.specs.declared.rules.State.TheVariants.{Absent, Waiting}
 use Rattle.placing.specs.declared.rules.Mark.{Mark}
-use Rattle.placing.specs.declared.rules.Mark.TheVariants.{PutOut, Tried}
-use Rattle.placing.specs.Board.{no_way, cells_of, listed, state_of, is_standing, is_waiting, is_in_force}
-use Rattle.placing.specs.Search.{fresh_at, piled, Leads, Tries, Places}
-use Rattle.placing.specs.Calls.{Passes, PassesBehind, Adds, Removes, same_state, changed_from}
+use Rattle.placing.specs.declared.rules.Mark.TheVariants.{Tried}
+use Rattle.placing.specs.Board.{no_way, cells_of, state_of, is_standing, is_waiting}
+use Rattle.placing.specs.Search.{piled, Leads, Tries, Places}
+use Rattle.placing.proofs.States.{in_force_or_waits}
+use Rattle.placing.specs.Calls.{Passes, PassesBehind, Adds, Removes, WaitsAt, same_state, changed_at, changed_from}
+
+-- The way at an index of a list, whatever an index past it reads as.
+pub same_way : {items ways : List Way} (i : ℕ) (past : Way) → items ≡ ways → i < length items → get_or items i past ≡ get_or ways i no_way
+same_way {items} {ways} i past e lt = get_or_default items i past no_way lt ∙ ap (λ (ws : List Way). get_or ws i no_way) e
 
 module _ (rules : List Rule) (states : List State) (rank : ℕ → ℕ) (r : ℕ) where
-  -- The pile at `top` is the rule there on what lies behind it.
-  pub step_empty : (at : List ℕ) (top : ℕ) (marks : List Mark) (taken : ℕ) → length at ≤ top → Leads rules states rank r (drop top at) marks taken (Some marks)
-  step_empty at top marks taken le = subst (λ (pile : List ℕ). Leads rules states rank r pile marks taken (Some marks)) (sym (drop_all top at le)) Leads.empty
-
-  on_top : (at : List ℕ) (top : ℕ) (marks : List Mark) (taken : ℕ) (o : Option (List Mark)) → top < length at → Leads rules states rank r (get_or at top 0 ∷ drop (top + 1) at) marks taken o → Leads rules states rank r (drop top at) marks taken o
-  on_top at top marks taken o lt d = subst (λ (pile : List ℕ). Leads rules states rank r pile marks taken o) (sym (drop_more at top 0 lt)) d
-
-  pub step_over : (at : List ℕ) (top : ℕ) (marks : List Mark) (taken : ℕ) (o : Option (List Mark)) → top < length at → fresh_at marks (get_or at top 0) ≡ false → Leads rules states rank r (drop (top + 1) at) marks taken o → Leads rules states rank r (drop top at) marks taken o
-  step_over at top marks taken o lt done d = on_top at top marks taken o lt (Leads.over done d)
-
-  pub step_out : (at : List ℕ) (top : ℕ) (marks : List Mark) (taken : ℕ) (o : Option (List Mark)) → top < length at → fresh_at marks (get_or at top 0) ≡ true → ltb (rank r) (rank (get_or at top 0)) ≡ true → Leads rules states rank r (drop (top + 1) at) (set marks (get_or at top 0) PutOut) taken o → Leads rules states rank r (drop top at) marks taken o
-  step_out at top marks taken o lt fresh after d = on_top at top marks taken o lt (Leads.out fresh after d)
-
-  pub step_try : (at : List ℕ) (top : ℕ) (marks : List Mark) (taken : ℕ) (o : Option (List Mark)) → top < length at → fresh_at marks (get_or at top 0) ≡ true → ltb (rank r) (rank (get_or at top 0)) ≡ false → Tries rules states rank r (get_or at top 0) (drop (top + 1) at) marks taken (listed rules (get_or at top 0)) 0 o → Leads rules states rank r (drop top at) marks taken o
-  step_try at top marks taken o lt fresh after t = on_top at top marks taken o lt (Leads.try fresh after t)
-
   -- The same search by other names.
   pub moved : {pile pile' : List ℕ} {marks marks' : List Mark} {taken taken' : ℕ} {o : Option (List Mark)} → pile ≡ pile' → marks ≡ marks' → taken ≡ taken' → Leads rules states rank r pile marks taken o → Leads rules states rank r pile' marks' taken' o
   moved {pile} {pile'} {marks} {marks'} {taken} {taken'} {o} p m t d =
@@ -62,6 +55,19 @@ module _ (rules : List Rule) (states : List State) (rank : ℕ → ℕ) (r : ℕ
     pub tries_fails : (o : Option (List Mark)) → i < length ways → eqb (bit_and taken way.mask) 0 ≡ true → Try None → TriesFrom (i + 1) o → TriesFrom i o
     tries_fails o lt b d t = at_way o lt (Tries.fails b d (next o t))
 
+-- Whether a rule has a rank and waits.
+abbrev pub waits_by : List State → (ℕ → ℕ) → ℕ → ℕ → Bool
+waits_by states rank k x = eqb (rank x) k && is_waiting (state_of states x)
+
+-- The first rule of a rank that waits, if there is one, is the waiting rule of the rank.
+pub waits_at : (states : List State) (rank : ℕ → ℕ) (k : ℕ) (o : Option ℕ) → MatchOption o ((x : ℕ) → 0 ≤ x → x < 64 → waits_by states rank k x ≡ false) (λ x. (0 ≤ x) × (x < 64) × (waits_by states rank k x ≡ true) × ((y : ℕ) → 0 ≤ y → y < x → waits_by states rank k y ≡ false)) → WaitsAt states rank k o
+waits_at states rank k (Some x) found = let parts = and_parts (eqb (rank x) k) (is_waiting (state_of states x)) found.2 in (found.1, eqb-true (rank x) k parts.0, parts.1)
+waits_at states rank k None none = λ x lt same. other (eqb (rank x) k) (is_waiting (state_of states x)) (none x (omega arith) lt) (eq-eqb (rank x) k same)
+  where
+    other : (a b : Bool) → (a && b) ≡ false → a ≡ true → b ≡ false
+    other true b e h = e
+    other false b e h = absurd (both_ways _ refl h)
+
 -- The pass by ranks below 64.
 module _ (rules : List Rule) (rank : ℕ → ℕ) where
   abbrev PassesFrom : ℕ → List State → List State → Type 0
@@ -94,32 +100,32 @@ changed_step r x ss ts hs ht =
     ap (λ (us : List State). changed_from x r us (drop x ts)) (drop_more ss x Absent hs) ∙ ap (changed_from x r (get_or ss x Absent ∷ drop (x + 1) ss)) (drop_more ts x Absent ht)
     ∙ ap (λ (k : ℕ). cond (eqb x r || same_state (get_or ss x Absent) (get_or ts x Absent)) 0 1 + changed_from k r (drop (x + 1) ss) (drop (x + 1) ts)) (sym (add-one x))
 
-pub changed_end : (r x : ℕ) (ss ts : List State) → length ss ≤ x → changed_from x r (drop x ss) (drop x ts) ≡ 0
-changed_end r x ss ts le = ap (λ (us : List State). changed_from x r us (drop x ts)) (drop_all x ss le)
-
-pub at_most_one : (b : Bool) → cond b 0 1 ≤ 1
-at_most_one true = omega arith
-at_most_one false = omega arith
+-- So they are as many as the numbers at which a rule is changed, and no more than there are rules.
+pub changed_counted : (r x n : ℕ) (ss ts : List State) → length ss ≡ x + n → length ts ≡ x + n → count_by (changed_at r ss ts) (range_with_len x n) ≡ changed_from x r (drop x ss) (drop x ts)
+changed_counted r x zero ss ts hs ht = ap (λ (us : List State). changed_from x r us (drop x ts)) (sym (drop_all x ss (omega (arith, hs))))
+changed_counted r x (suc n) ss ts hs ht =
+    sum_by-cons (λ y. cond (changed_at r ss ts y) 1 0) x (range_with_len (x + 1) n) ∙ one (eqb x r) (same_state (get_or ss x Absent) (get_or ts x Absent)) (changed_counted r (x + 1) n ss ts (omega (arith, hs)) (omega (arith, ht))) ∙ sym (changed_step r x ss ts (omega (arith, hs)) (omega (arith, ht)))
+  where
+    one : (a b : Bool) {m k : ℕ} → m ≡ k → cond (not a && not b) 1 0 + m ≡ cond (a || b) 0 1 + k
+    one true b e = omega (arith, e)
+    one false true e = omega (arith, e)
+    one false false e = omega (arith, e)
 
 -- The calls, from the tables that the code writes.
 module _ (rules : List Rule) (states : List State) (rank : ℕ → ℕ) (r : ℕ) where
-  places_at : (rule : Rule) {rules' : List Rule} {states' s : List State} {o p : Bool} → rules' ≡ set rules r rule → states' ≡ set states r Waiting → o ≡ p → Places rules' states' rank r o s → Places (set rules r rule) (set states r Waiting) rank r p s
-  places_at rule {rules'} {states'} {s} {o} {p} er es eo q =
-      subst (λ (b : Bool). Places (set rules r rule) (set states r Waiting) rank r b s) eo (subst (λ (t : List State). Places (set rules r rule) t rank r o s) es (subst (λ (n : List Rule). Places n states' rank r o s) er q))
+  places_at : (rule : Rule) {rules' : List Rule} {states' s : List State} {o : Bool} → rules' ≡ set rules r rule → states' ≡ set states r Waiting → Places rules' states' rank r o s → Places (set rules r rule) (set states r Waiting) rank r o s
+  places_at rule {rules'} {states'} {s} {o} er es q =
+      subst (λ (t : List State). Places (set rules r rule) t rank r o s) es (subst (λ (n : List Rule). Places n states' rank r o s) er q)
 
-  pub adds_waits : (rule : Rule) {rules' : List Rule} {states' s : List State} {o : Bool} → rules' ≡ set rules r rule → states' ≡ set states r Waiting → o ≡ false → Places rules' states' rank r o s → Adds rules states rank r rule false s
-  adds_waits rule er es eo q = Adds.waits (places_at rule er es eo q)
+  pub adds_waits : (rule : Rule) {rules' : List Rule} {states' s : List State} → rules' ≡ set rules r rule → states' ≡ set states r Waiting → Places rules' states' rank r false s → Adds rules states rank r rule false s
+  adds_waits rule er es q = Adds.waits (places_at rule er es q)
 
-  pub adds_comes : (rule : Rule) {rules' : List Rule} {states' s t : List State} {o : Bool} → rules' ≡ set rules r rule → states' ≡ set states r Waiting → o ≡ true → Places rules' states' rank r o s → PassesBehind rules' rank r s t → Adds rules states rank r rule true t
-  adds_comes rule {s = s} {t = t} er es eo q pass = Adds.comes (places_at rule er es eo q) (subst (λ (n : List Rule). PassesBehind n rank r s t) er pass)
+  pub adds_comes : (rule : Rule) {rules' : List Rule} {states' s t : List State} → rules' ≡ set rules r rule → states' ≡ set states r Waiting → Places rules' states' rank r true s → PassesBehind rules' rank r s t → Adds rules states rank r rule true t
+  adds_comes rule {s = s} {t = t} er es q pass = Adds.comes (places_at rule er es q) (subst (λ (n : List Rule). PassesBehind n rank r s t) er pass)
 
   pub removes_waited : {s : List State} → s ≡ set states r Absent → is_waiting (state_of states r) ≡ true → Removes rules states rank r s
   removes_waited e w = subst (Removes rules states rank r) (sym e) (Removes.waited w)
 
   pub removes_gave : {s t : List State} → s ≡ set states r Absent → is_standing (state_of states r) ≡ true → is_waiting (state_of states r) ≡ false → PassesBehind rules rank r s t → Removes rules states rank r t
-  removes_gave {s} {t} e standing w pass = Removes.gave (gives_then (state_of states r) standing w) (subst (λ (u : List State). PassesBehind rules rank r u t) e pass)
-    where
-      gives_then : (a : State) → is_standing a ≡ true → is_waiting a ≡ false → is_in_force a ≡ true
-      gives_then Absent h k = h
-      gives_then Waiting h k = sym k
-      gives_then (InForce i) h k = refl
+  removes_gave {s} {t} e standing w pass =
+      Removes.gave (in_force_or_waits (state_of states r) standing (both_ways _ w)) (subst (λ (u : List State). PassesBehind rules rank r u t) e pass)

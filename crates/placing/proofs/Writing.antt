@@ -1,7 +1,7 @@
 -- A board on which one rule is written anew, out of force; and so adding and removing.
 use Rattle.std.proofs.Common.{◌≡◌, ℕ, suc, ◌-◌, ◌<◌, Bool, true, false, cond, ltb, leb, List, length, get_or, take, set, Some, None, Ok, Err, Option, Result, sym, refl, ap, ◌∙◌, subst, inl, inr, ⊎_elim, arith, length-set, get_or-set_other, get_or-set_same}
 use lib.Bits.{and_zero_l, and_zero_r}
-use Rattle.std.proofs.lemmas.Bool.{both_ways, cases_lt, cases_eq, cases_Bool, leb-false, and_parts}
+use Rattle.std.proofs.lemmas.Bool.{false_from_ne_true, both_ways, cases_lt, cases_eq, leb-false, and_parts}
 use Rattle.placing.specs.declared.rules.Way.{Way}
 use Rattle.placing.specs.declared.rules.Rule.{Rule}
 use Rattle.placing.specs.declared.rules.State.{State}
@@ -22,13 +22,10 @@ use Rattle.placing.proofs.Single.{some_none}
 use Rattle.ranks.proofs.RankNumbers.{not_shared}
 use Rattle.placing.proofs.After.{gives_nothing}
 use Rattle.placing.proofs.Placing.{placing_is_lawful}
-use Rattle.placing.proofs.Settling.{settled_same, settled_absent, past_absent, force_stands, stepped, step_settles, pass_settles, pass_board}
+use Rattle.placing.proofs.States.{force_standing, not_both}
+use Rattle.placing.proofs.Settling.{settled_same, settled_absent, past_absent, stepped, step_settles, pass_settles, pass_board}
 
-waiting_off : (s : State) → is_waiting s ≡ true → is_in_force s ≡ false
-waiting_off Absent w = refl
-waiting_off Waiting w = refl
-waiting_off (InForce i) w = absurd (both_ways _ refl w)
-
+-- A rule that is not in force has no way that would have to be listed.
 listed_by_off : (rules : List Rule) (x : ℕ) (s : State) → is_in_force s ≡ false → listed_by rules x s ≡ true
 listed_by_off rules x Absent h = refl
 listed_by_off rules x Waiting h = refl
@@ -108,6 +105,10 @@ board_of b = record {
   selected_listed = b.chosen;
 }
 
+-- The numbers of a table of ranks are distinct.
+pub numbers_distinct : (ranks : RankTable) (numbers : List ℕ) → numbers ≡ ranks.of → Distinct (rank_in numbers)
+numbers_distinct ranks numbers e = subst (λ (of : List ℕ). Distinct (rank_in of)) (sym e) (not_shared (rank_in ranks.of) ranks.distinct)
+
 -- Adding and removing leave a board, settled or not.
 module _ (rules : List Rule) (states : List State) (rank : ℕ → ℕ) (r : ℕ) (b : IsBoard rules states) (distinct : Distinct rank) (small : r < 64) where
   pub waiting_board : (rule : Rule) → lawful_rule rule ≡ true → IsBoard (set rules r rule) (set states r Waiting)
@@ -138,7 +139,7 @@ module _ (rules : List Rule) (states : List State) (rank : ℕ → ℕ) (r : ℕ
   adding rule f after ok gone adds = by adds
     where
       not_in_force : is_in_force (state_of states r) ≡ false
-      not_in_force = ⊎_elim (λ h. absurd (force_stands (state_of states r) gone h)) (λ h. h) (cases_Bool (is_in_force (state_of states r)))
+      not_in_force = false_from_ne_true _ (λ h. both_ways _ gone (force_standing (state_of states r) h))
 
       board : IsBoard (set rules r rule) (set states r Waiting)
       board = waiting_board rules states rank r b distinct small rule ok
@@ -171,7 +172,7 @@ module _ (rules : List Rule) (states : List State) (rank : ℕ → ℕ) (r : ℕ
       itself x e = subst (SettledAt rules (set states r Absent) rank) (sym e) (settled_absent rules (set states r Absent) rank r (ap is_standing (get_or-set_same states r Absent Absent (omega (arith, b.states_counted)))))
 
       by : {t : List State} → Removes rules states rank r t → IsBoard rules t × Settled rules t rank
-      by (Removes.waited w) = (board, λ x. ⊎_elim (itself x) (λ ne. others x ne (λ _. waiting_off (state_of states r) w)) (cases_eq x r))
+      by (Removes.waited w) = (board, λ x. ⊎_elim (itself x) (λ ne. others x ne (λ _. false_from_ne_true _ (not_both (state_of states r) w))) (cases_eq x r))
       by (Removes.gave {t = t} f p) =
           whole rules (set states r Absent) t board (λ x h. ⊎_elim (itself x) (λ ne. ⊎_elim (λ lt. others x ne (λ k. absurd (ne (distinct x r lt small (omega arith))))) (λ le. settled_absent rules (set states r Absent) rank x (past_absent rules (set states r Absent) board x le)) (cases_lt x 64)) (cases_eq x r)) p
 

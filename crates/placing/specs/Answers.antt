@@ -1,5 +1,5 @@
 -- What the calls on a board answer: each refusal with its place in the order of the checks, and what an accepted call does.
-use Rattle.std.specs.Prelude.{◌≡◌, ℕ, Bool, cond, ◌&&◌, List, Some, None, Ok, Err, Option, Result, nat_le, nat_lt, slice_set}
+use Rattle.std.specs.Prelude.{◌≡◌, ℕ, Bool, if◌then◌else◌, ◌&&◌, List, Some, None, Ok, Err, Option, Result, nat_le, nat_lt, slice_set}
 use Rattle.placing.specs.declared.rules.Rule.{Rule}
 use Rattle.placing.specs.declared.rules.State.{State}
 use Rattle.placing.specs.declared.board.Added.{Added}
@@ -14,10 +14,10 @@ is_rule rule = nat_lt 0 rule.count && lawful_rule rule
 
 -- Why an addition is refused, if it is.
 abbrev pub add_refusal : List State → ℕ → Rule → Option Refused
-add_refusal states r rule = cond (nat_le 64 r) (Some Number) (cond (is_standing (state_of states r)) (Some Stands) (cond (is_rule rule) None (Some Ways)))
+add_refusal states r rule = if nat_le 64 r then Some Number else (if is_standing (state_of states r) then Some Stands else (if is_rule rule then None else Some Ways))
 
 abbrev pub remove_refusal : List State → ℕ → Option Refused
-remove_refusal states r = cond (nat_le 64 r) (Some Number) (cond (is_standing (state_of states r)) None (Some Absent))
+remove_refusal states r = if nat_le 64 r then Some Number else (if is_standing (state_of states r) then None else Some Absent)
 
 -- An addition: a refusal changes nothing; an accepted one answers whether the rule is in force, and the number of other
 -- rules whose way or waiting is different at the end.

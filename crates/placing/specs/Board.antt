@@ -1,5 +1,5 @@
 -- The rules of a board, their listed ways and outputs, and who gives which cells.
-use Rattle.std.specs.Prelude.{◌≡◌, ℕ, suc, ◌^◌, Bool, true, false, cond, ◌&&◌, ltb, List, [], ◌∷◌, length, get_or, take, Some, None, Option, ◌==◌, ◌≢◌, bit_and, bit_or, nat_le, nat_lt, slice_index_or}
+use Rattle.std.specs.Prelude.{◌≡◌, ℕ, suc, ◌^◌, Bool, true, false, if◌then◌else◌, ◌&&◌, List, [], ◌∷◌, length, take, Some, None, Option, ◌==◌, ◌≢◌, bit_and, bit_or, nat_le, nat_lt, slice_index_or}
 use Rattle.std.specs.List.{list_all}
 use Rattle.placing.specs.declared.rules.Way.{Way}
 use Rattle.placing.specs.declared.rules.Rule.{Rule}
@@ -26,7 +26,7 @@ listed rules x = ways_of (slice_index_or rules x no_rule)
 
 -- The outputs of the listed way at an index, as a mask.
 abbrev pub way_mask : List Rule → ℕ → ℕ → ℕ
-way_mask rules x i = (get_or (listed rules x) i no_way).mask
+way_mask rules x i = (slice_index_or (listed rules x) i no_way).mask
 
 abbrev pub state_of : List State → ℕ → State
 state_of states x = slice_index_or states x Absent
@@ -50,7 +50,7 @@ is_in_force (InForce i) = true
 abbrev pub given : Rule → State → ℕ
 given rule Absent = 0
 given rule Waiting = 0
-given rule (InForce i) = (get_or (ways_of rule) i no_way).mask
+given rule (InForce i) = (slice_index_or (ways_of rule) i no_way).mask
 
 abbrev pub given_by : List Rule → ℕ → State → ℕ
 given_by rules x state = given (slice_index_or rules x no_rule) state
@@ -93,7 +93,7 @@ mask_of (c ∷ cs) = bit_or (2 ^ c) (mask_of cs)
 
 -- At most 6 outputs, each a cell below 64, and the mask is theirs.
 abbrev pub lawful_way : Way → Bool
-lawful_way way = nat_le way.count 6 && (list_all (λ c. ltb c 64) (cells_of way) && way.mask == mask_of (cells_of way))
+lawful_way way = nat_le way.count 6 && (list_all (λ c. nat_lt c 64) (cells_of way) && way.mask == mask_of (cells_of way))
 
 -- At most 4 ways, each lawful.
 abbrev pub lawful_rule : Rule → Bool
@@ -105,7 +105,7 @@ LawfulRules rules = (x : ℕ) → lawful_rule (slice_index_or rules x no_rule) �
 -- The rules that stand, among those from x on, as a mask.
 abbrev pub standing_from : ℕ → List State → ℕ
 standing_from x [] = 0
-standing_from x (s ∷ states) = bit_or (cond (is_standing s) (2 ^ x) 0) (standing_from (suc x) states)
+standing_from x (s ∷ states) = bit_or (if is_standing s then 2 ^ x else 0) (standing_from (suc x) states)
 
 abbrev pub standing_mask : List State → ℕ
 standing_mask states = standing_from 0 states

@@ -1,6 +1,9 @@
 pub mod Board
 pub mod Choice
 pub mod Search
+pub mod Piles
 pub mod Calls
 pub mod Answers
 pub mod Laws
+pub mod Showing
+pub mod RefusalText

@@ -1,5 +1,5 @@
 -- Placing a rule, as a relation: from a pile of rules, marks and taken cells the search leads to marks, or it fails.
-use Rattle.std.specs.Prelude.{◌≡◌, ℕ, zero, suc, ◌+◌, Bool, true, false, cond, List, [], ◌∷◌, ◌++◌, replicate, Some, None, Option, ◌==◌, bit_and, bit_or, nat_lt, slice_index_or, slice_set}
+use Rattle.std.specs.Prelude.{◌≡◌, ℕ, zero, suc, ◌+◌, Bool, true, false, if◌then◌else◌, List, [], ◌∷◌, ◌++◌, replicate, Some, None, Option, ◌==◌, bit_and, bit_or, nat_lt, slice_index_or, slice_set}
 use Rattle.meaning.specs.Masks.{bit}
 use Rattle.placing.specs.declared.rules.Way.{Way}
 use Rattle.placing.specs.declared.rules.Rule.{Rule}
@@ -21,7 +21,7 @@ fresh_at marks x = is_fresh (slice_index_or marks x PutOut)
 -- Of the n rules from x on, the first that gives the cell, if there is one.
 unfoldable pub giver_from : List Rule → List State → ℕ → ℕ → ℕ → List ℕ
 giver_from rules states c x zero = []
-giver_from rules states c x (suc n) = cond (bit (gives rules states x) c) (x ∷ []) (giver_from rules states c (suc x) n)
+giver_from rules states c x (suc n) = if bit (gives rules states x) c then x ∷ [] else giver_from rules states c (suc x) n
 
 -- The rule that gives a cell, if there is one.
 abbrev pub giver : List Rule → List State → ℕ → List ℕ
@@ -40,7 +40,7 @@ one_of None = []
 -- How many rules are fresh.
 abbrev pub fresh_count : List Mark → ℕ
 fresh_count [] = 0
-fresh_count (m ∷ marks) = cond (is_fresh m) 1 0 + fresh_count marks
+fresh_count (m ∷ marks) = (if is_fresh m then 1 else 0) + fresh_count marks
 
 -- The rules and their states are those before the placing of r, and so the givers are.
 module _ (rules : List Rule) (states : List State) (rank : ℕ → ℕ) (r : ℕ) where

@@ -1,11 +1,15 @@
 //! The board: the rules, and who is in force.
 
-ghost use Rattle.std.specs.Prelude.{◌≡◌, length};
+ghost use Rattle.std.specs.Prelude.{◌≡◌, length, Some};
 ghost use Rattle.placing.specs.Board.{LawfulRules, NoTwoGivers, SelectedListed};
+ghost use Rattle.placing.specs.RefusalText.{refusal_text};
 
 use crate::rules::{RULES, Rule, State};
+use std::error::Error;
+use std::fmt;
 
 /// Sixty-four rules by number, each absent, waiting, or in force by one of its listed ways. No cell has two givers.
+// Two tables: a placing changes the states alone, and the laws compare states over the same rules.
 #[derive(Drop)]
 pub struct Board {
     pub(crate) rules: [Rule; RULES],
@@ -18,6 +22,7 @@ pub struct Board {
 }
 
 /// The answer to an addition: whether the rule is in force, and how many other rules changed on balance.
+// No Option: the number is there in both cases.
 #[derive(Clone, Copy, PartialEq, Eq, Debug)]
 pub struct Added {
     pub in_force: bool,
@@ -37,3 +42,19 @@ pub enum Refused {
     /// that of its outputs.
     Ways,
 }
+
+/// A refusal prints as the reason in words.
+impl fmt::Display for Refused {
+    ghost output = { λ refused. Some (refusal_text refused) };
+
+    fn fmt<W: fmt::Write>(&self, f: &mut fmt::Formatter<W>) -> fmt::Result {
+        match *self {
+            Refused::Number => write!(f, "the rule's number is over 63"),
+            Refused::Stands => write!(f, "a rule of this number stands already"),
+            Refused::Absent => write!(f, "no rule of this number stands"),
+            Refused::Ways => write!(f, "the rule's ways are not lawful"),
+        }
+    }
+}
+
+impl Error for Refused {}

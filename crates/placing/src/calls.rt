@@ -1,6 +1,6 @@
 //! What can be done with a board: adding a rule, removing one, and asking.
 
-ghost use Rattle.std.specs.Prelude.{◌≡◌, ◌^◌, ◌<◌, set, replicate, if◌then◌else◌, slice_index_or, slice_set};
+ghost use Rattle.std.specs.Prelude.{◌≡◌, ◌^◌, ◌<◌, if◌then◌else◌, replicate, slice_index_or, slice_set};
 ghost use Rattle.placing.specs.declared.rules.State.TheVariants.{Absent, Waiting};
 ghost use Rattle.placing.specs.Board.{state_of, is_standing, no_rule, way_by, empty_rule, standing_mask};
 ghost use Rattle.placing.specs.Search.{giver as giver_of, one_of};
@@ -11,19 +11,20 @@ ghost use Rattle.placing.specs.Laws.{IsBoard};
 
 use crate::board::{Added, Board, Refused};
 use crate::lawful::is_lawful;
-use crate::passes::{changed, with_rule, without_rule};
-use crate::rules::{NO_RULE, RULES, Rule, State, Way};
-use crate::search::{giver, way_at};
+use crate::passes::{Pass, changed};
+use crate::rules::{NO_RULE, RULES, Rule, State, Way, written};
+use crate::search::giver;
 use meaning::write_at;
 use ranks::Ranks;
 
 impl Board {
     /// A board on which no rule stands.
+    #[tactic(auto, using(crate::proofs::Empty::empty_board))]
     pub fn empty() -> Board
         ensures rules { result.rules ≡ replicate 64 empty_rule }
         ensures states { result.states ≡ replicate 64 Absent }
     {
-        Board::of([NO_RULE; RULES], all_absent())
+        Board::of([NO_RULE; RULES], [State::Absent; RULES])
     }
 
     /// A board of these rules in these states.
@@ -46,13 +47,10 @@ impl Board {
     pub fn way(&self, x: u8) -> Option<Way>
         ensures { result ≡ way_by (slice_index_or self.now.rules x no_rule) (state_of self.now.states x) }
     {
-        let n = usize::from(x);
-        if n >= RULES {
-            return None;
-        }
+        let rule = self.rules.get(usize::from(x))?;
         match self.state(x) {
             State::Absent | State::Waiting => None,
-            State::InForce(i) => Some(way_at(&self.rules[n], usize::from(i))),
+            State::InForce(i) => Some(rule.way(i)),
         }
     }
 
@@ -88,17 +86,24 @@ impl Board {
         if n >= RULES {
             return Err(Refused::Number);
         }
-        if is_standing(self.states[n]) {
+        if self.states[n].is_standing() {
             return Err(Refused::Stands);
         }
         if !is_rule(&rule) {
             return Err(Refused::Ways);
         }
-        let added = with_rule(&self.rules, &self.states, ranks.numbers(), r, rule);
-        let changed = changed(r, &self.states, &added.states);
-        *self = Board::of(added.rules, added.states);
+        let rules = written(&self.rules, r, rule);
+        let waiting = written(&self.states, r, State::Waiting);
+        let pass = Pass {
+            rules: &rules,
+            ranks: ranks.numbers(),
+        };
+        let placed = pass.add(&waiting, r);
+        let states = placed.unwrap_or(waiting);
+        let changed = changed(r, &self.states, &states);
+        *self = Board::of(rules, states);
         Ok(Added {
-            in_force: added.in_force,
+            in_force: placed.is_some(),
             changed,
         })
     }
@@ -113,21 +118,18 @@ impl Board {
         if n >= RULES {
             return Err(Refused::Number);
         }
-        if !is_standing(self.states[n]) {
+        if !self.states[n].is_standing() {
             return Err(Refused::Absent);
         }
-        let after = without_rule(&self.rules, &self.states, ranks.numbers(), r);
+        let pass = Pass {
+            rules: &self.rules,
+            ranks: ranks.numbers(),
+        };
+        let after = pass.remove(&self.states, r);
         let changed = changed(r, &self.states, &after);
         *self = Board::of(self.rules, after);
         Ok(changed)
     }
-}
-
-/// The states of a board on which no rule stands.
-fn all_absent() -> [State; RULES]
-    ensures { result ≡ replicate 64 Absent }
-{
-    [State::Absent; RULES]
 }
 
 /// The set of one rule that stands; of another, the empty set.
@@ -135,7 +137,7 @@ fn standing_bit(state: State, x: usize) -> u64
     requires { x < 64 }
     ensures { result ≡ (if is_standing state then 2 ^ x else 0) }
 {
-    if is_standing(state) { 1 << x } else { 0 }
+    if state.is_standing() { 1 << x } else { 0 }
 }
 
 /// The rules that stand, as a mask.
@@ -143,22 +145,10 @@ fn standing_in(states: &[State; RULES]) -> u64
     ensures { result ≡ standing_mask states.now }
 {
     let mut mask = 0;
-    let mut i = RULES;
-    while i > 0 {
-        i -= 1;
-        mask |= standing_bit(states[i], i);
+    for (x, state) in states.iter().enumerate() {
+        mask |= standing_bit(*state, x);
     }
     mask
-}
-
-/// Whether a rule stands.
-fn is_standing(state: State) -> bool
-    ensures { result ≡ is_standing state }
-{
-    match state {
-        State::Absent => false,
-        State::Waiting | State::InForce(_) => true,
-    }
 }
 
 /// Whether a rule can be put on a board.

@@ -5,18 +5,12 @@ ghost use Rattle.std.specs.List.{list_all};
 ghost use Rattle.placing.specs.Board.{mask_of, lawful_way, lawful_rule};
 
 use crate::rules::{Rule, Way};
-use crate::search::{cells_of, way_at, way_count};
 
 /// Whether each cell is below 64.
 fn are_small(cells: &[u8]) -> bool
     ensures { result ≡ list_all (λ c. nat_lt c 64) cells.now }
 {
-    for cell in cells {
-        if *cell >= 64 {
-            return false;
-        }
-    }
-    true
+    cells.iter().all(|cell| *cell < 64)
 }
 
 /// The set of some cells below 64, as a mask.
@@ -25,10 +19,8 @@ fn mask_of(cells: &[u8]) -> u64
     ensures { result ≡ mask_of cells.now }
 {
     let mut mask = 0;
-    let mut i = cells.len();
-    while i > 0 {
-        i -= 1;
-        mask |= 1 << cells[i];
+    for cell in cells {
+        mask |= 1 << *cell;
     }
     mask
 }
@@ -37,21 +29,20 @@ fn mask_of(cells: &[u8]) -> u64
 fn is_lawful_way(way: &Way) -> bool
     ensures { result ≡ lawful_way way.now }
 {
-    let cells = cells_of(&way.outputs, way.count);
+    let cells = way.cells();
     way.count <= 6 && are_small(cells) && way.mask == mask_of(cells)
+}
+
+/// Whether each way is lawful.
+fn are_lawful(ways: &[Way]) -> bool
+    ensures { result ≡ list_all lawful_way ways.now }
+{
+    ways.iter().all(|way| is_lawful_way(way))
 }
 
 /// Whether a rule has at most 4 ways, each lawful.
 pub(crate) fn is_lawful(rule: &Rule) -> bool
     ensures { result ≡ lawful_rule rule.now }
 {
-    if rule.count > 4 {
-        return false;
-    }
-    for i in 0..way_count(rule) {
-        if !is_lawful_way(&way_at(rule, i)) {
-            return false;
-        }
-    }
-    true
+    rule.count <= 4 && are_lawful(rule.listed())
 }

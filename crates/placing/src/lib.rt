@@ -7,5 +7,7 @@ mod calls;
 mod lawful;
 pub mod laws;
 mod passes;
+mod pile;
 pub mod rules;
 mod search;
+mod showing;

@@ -1,204 +1,117 @@
 //! Placing one rule, and the pass down the ranks.
 
-ghost use Rattle.std.specs.Prelude.{◌≡◌, ◌-◌, ◌<◌, true, ◌||◌, if◌then◌else◌, nat_eq, slice_set};
+ghost use Rattle.std.specs.Prelude.{◌≡◌, ◌-◌, ◌<◌, true, ◌&&◌, ◌==◌, is_some, unwrap_or, slice_set};
+ghost use Rattle.placing.specs.declared.rules.State.TheVariants.{Waiting};
 ghost use Rattle.placing.specs.Board.{state_of, is_standing, is_waiting};
-ghost use Rattle.placing.specs.Search.{marked as marked_by, applied as applied_to, Places};
+ghost use Rattle.placing.specs.Search.{applied as applied_to, Places};
 ghost use Rattle.ranks.specs.Numbers.{rank_in};
-ghost use Rattle.placing.specs.Calls.{Passes, PassesBehind, Adds, Removes, WaitsAt, same_state, changed as changed_by};
+ghost use Rattle.placing.specs.Calls.{Passes, PassesBehind, Adds, Removes, WaitsAt, changed_at, changed as changed_by};
 
 use crate::rules::{Mark, RULES, Rule, State, written};
-use crate::search::{rank_of, start, take_off};
-
-/// What a placing leaves: whether it succeeded, and the states.
-#[derive(Clone, Copy)]
-pub(crate) struct Outcome {
-    pub in_force: bool,
-    pub states: [State; RULES],
-}
-
-/// What a mark makes of a rule.
-fn marked(state: State, mark: Mark) -> State
-    ensures { result ≡ marked_by state mark }
-{
-    match mark {
-        Mark::PutOut => State::Waiting,
-        Mark::Fresh => state,
-        Mark::Tried(i) => State::InForce(i),
-    }
-}
+use crate::search::{Placing, Search, rank_of};
+use meaning::read_or;
+use std::array;
 
 /// The states as the marks make them.
 fn applied(states: &[State; RULES], marks: &[Mark; RULES]) -> [State; RULES]
     ensures { result ≡ applied_to states.now marks.now }
 {
-    let mut after = *states;
-    for x in 0..RULES {
-        after[x] = marked(states[x], marks[x]);
-    }
-    after
+    array::from_fn(|x| states[x].marked(marks[x]))
 }
 
-/// Places a waiting rule.
-pub(crate) fn place(
-    rules: &[Rule; RULES],
-    states: &[State; RULES],
-    ranks: &[u8; RULES],
-    r: u8,
-) -> Outcome
-    ensures { Places rules.now states.now (rank_in ranks.now) r result.in_force result.states }
-{
-    match take_off(rules, states, ranks, r, start(r)) {
-        Some(found) => Outcome {
-            in_force: true,
-            states: applied(states, &found),
-        },
-        None => Outcome {
-            in_force: false,
-            states: *states,
-        },
-    }
-}
-
-/// The waiting rule of a rank, if there is one.
-fn waiting_at(states: &[State; RULES], ranks: &[u8; RULES], rank: usize) -> Option<u8>
-    ensures { WaitsAt states.now (rank_in ranks.now) rank result }
-{
-    for x in 0..RULES {
-        if usize::from(ranks[x]) == rank && is_waiting(states[x]) {
-            return Some(x as u8);
-        }
-    }
-    None
-}
-
-/// Whether a rule waits.
-fn is_waiting(state: State) -> bool
-    ensures { result ≡ is_waiting state }
-{
-    match state {
-        State::Waiting => true,
-        State::Absent | State::InForce(_) => false,
-    }
-}
-
-/// Goes down the ranks from one on, and places each rule that waits when it is reached.
-pub(crate) fn pass_down(
-    rules: &[Rule; RULES],
-    states: &[State; RULES],
-    ranks: &[u8; RULES],
-    from: usize,
-) -> [State; RULES]
-    ensures { Passes rules.now (rank_in ranks.now) from (64 - from) states.now result }
-{
-    let mut after = *states;
-    for rank in from..RULES {
-        match waiting_at(&after, ranks, rank) {
-            Some(x) => after = place(rules, &after, ranks, x).states,
-            None => {}
-        }
-    }
-    after
-}
-
-/// A rule added: the rules with it, the states, and whether it is in force.
+/// The rules as a pass places them, one after another, and their ranks.
 #[derive(Clone, Copy)]
-pub(crate) struct Addition {
-    pub rules: [Rule; RULES],
-    pub states: [State; RULES],
-    pub in_force: bool,
+pub(crate) struct Pass<'a> {
+    pub rules: &'a [Rule; RULES],
+    pub ranks: &'a [u8; RULES],
 }
 
-/// Adds a rule: as a waiting one it is placed, and on success the pass goes down behind it.
-pub(crate) fn with_rule(
-    rules: &[Rule; RULES],
-    states: &[State; RULES],
-    ranks: &[u8; RULES],
-    r: u8,
-    rule: Rule,
-) -> Addition
-    requires { r < 64 }
-    ensures rules { result.rules ≡ slice_set rules.now r rule }
-    ensures adds { Adds rules.now states.now (rank_in ranks.now) r rule result.in_force result.states }
-{
-    let rules = written(rules, r, rule);
-    let states = written(states, r, State::Waiting);
-    let outcome = place(&rules, &states, ranks, r);
-    if outcome.in_force {
-        let states = pass_behind(&rules, &outcome.states, ranks, r);
-        Addition {
-            rules,
+impl Pass<'_> {
+    /// Places a waiting rule: the states after a success. Without one it goes on waiting, and nothing changes.
+    fn place(self, states: &[State; RULES], r: u8) -> Option<[State; RULES]>
+        ensures { Places self.entry.rules.now states.now (rank_in self.entry.ranks.now) r (is_some result) (unwrap_or result states.now) }
+    {
+        let placing = Placing {
+            rules: self.rules,
             states,
-            in_force: true,
+            ranks: self.ranks,
+            r,
+        };
+        let found = placing.take_off(Search::start(r))?;
+        Some(applied(states, &found))
+    }
+
+    /// Whether a rule has this rank and waits.
+    fn waits_at(self, states: &[State; RULES], x: u8, rank: usize) -> bool
+        ensures { result ≡ (rank_in self.entry.ranks.now x == rank && is_waiting (state_of states.now x)) }
+    {
+        usize::from(rank_of(self.ranks, x)) == rank
+            && read_or(states, usize::from(x), State::Absent).is_waiting()
+    }
+
+    /// The waiting rule of a rank, if there is one.
+    fn waiting_at(self, states: &[State; RULES], rank: usize) -> Option<u8>
+        ensures { WaitsAt states.now (rank_in self.entry.ranks.now) rank result }
+    {
+        (0..64u8).find(|x| self.waits_at(states, *x, rank))
+    }
+
+    /// Goes down the ranks from one on, and places each rule that waits when it is reached.
+    fn down(self, states: &[State; RULES], from: usize) -> [State; RULES]
+        ensures { Passes self.entry.rules.now (rank_in self.entry.ranks.now) from (64 - from) states.now result }
+    {
+        let mut after = *states;
+        for rank in from..RULES {
+            if let Some(x) = self.waiting_at(&after, rank) {
+                after = self.place(&after, x).unwrap_or(after);
+            }
         }
-    } else {
-        Addition {
-            rules,
-            states: outcome.states,
-            in_force: false,
+        after
+    }
+
+    /// Goes down the ranks behind a rule.
+    fn behind(self, states: &[State; RULES], r: u8) -> [State; RULES]
+        ensures { PassesBehind self.entry.rules.now (rank_in self.entry.ranks.now) r states.now result }
+    {
+        let from = usize::from(rank_of(self.ranks, r)) + 1;
+        self.down(states, from)
+    }
+
+    /// Places a rule that is added and waits, and on success goes down behind it. Without success nothing changes.
+    pub(crate) fn add(self, waiting: &[State; RULES], r: u8) -> Option<[State; RULES]>
+        ensures { (rules : _) (states : _) (rule : _) → self.entry.rules.now ≡ slice_set rules r rule → waiting.now ≡ slice_set states r Waiting → Adds rules states (rank_in self.entry.ranks.now) r rule (is_some result) (unwrap_or result waiting.now) }
+    {
+        let placed = self.place(waiting, r)?;
+        Some(self.behind(&placed, r))
+    }
+
+    /// Takes a rule off: behind one in force the pass goes down, a waiting one changes no other.
+    pub(crate) fn remove(self, states: &[State; RULES], r: u8) -> [State; RULES]
+        requires { (r < 64) × (is_standing (state_of states.now r) ≡ true) }
+        ensures { Removes self.entry.rules.now states.now (rank_in self.entry.ranks.now) r result }
+    {
+        let after = written(states, r, State::Absent);
+        if states[usize::from(r)].is_waiting() {
+            return after;
         }
+        self.behind(&after, r)
     }
 }
 
-/// Removes a rule: behind one in force the pass goes down, a waiting one changes no other.
-pub(crate) fn without_rule(
-    rules: &[Rule; RULES],
-    states: &[State; RULES],
-    ranks: &[u8; RULES],
-    r: u8,
-) -> [State; RULES]
-    requires { (r < 64) × (is_standing (state_of states.now r) ≡ true) }
-    ensures { Removes rules.now states.now (rank_in ranks.now) r result }
+/// Whether rule x is another than r, and its way or waiting is different.
+fn is_changed(r: u8, before: &[State; RULES], after: &[State; RULES], x: u8) -> bool
+    ensures { result ≡ changed_at r before.now after.now x }
 {
-    let after = written(states, r, State::Absent);
-    if is_waiting(states[usize::from(r)]) {
-        return after;
-    }
-    pass_behind(rules, &after, ranks, r)
-}
-
-/// The pass down behind a rule.
-fn pass_behind(
-    rules: &[Rule; RULES],
-    states: &[State; RULES],
-    ranks: &[u8; RULES],
-    r: u8,
-) -> [State; RULES]
-    ensures { PassesBehind rules.now (rank_in ranks.now) r states.now result }
-{
-    let from = usize::from(rank_of(ranks, r)) + 1;
-    pass_down(rules, states, ranks, from)
+    let was = read_or(before, usize::from(x), State::Absent);
+    let is = read_or(after, usize::from(x), State::Absent);
+    x != r && was != is
 }
 
 /// The number of rules other than r whose way or waiting is different.
 pub(crate) fn changed(r: u8, before: &[State; RULES], after: &[State; RULES]) -> u8
     ensures { result ≡ changed_by r before.now after.now }
 {
-    let mut count = 0;
-    for x in 0..RULES {
-        count += difference(r, x, before[x], after[x]);
-    }
-    count
-}
-
-/// 1 for a rule x other than r whose state is not what it was, else 0.
-fn difference(r: u8, x: usize, before: State, after: State) -> u8
-    ensures { result ≡ (if nat_eq x r || same_state before after then 0 else 1) }
-{
-    if x == usize::from(r) || is_same(before, after) {
-        0
-    } else {
-        1
-    }
-}
-
-/// Whether two states are the same.
-fn is_same(a: State, b: State) -> bool
-    ensures { result ≡ same_state a b }
-{
-    match (a, b) {
-        (State::Absent, State::Absent) => true,
-        (State::Waiting, State::Waiting) => true,
-        (State::InForce(i), State::InForce(j)) => i == j,
-        _ => false,
-    }
+    (0..64u8)
+        .filter(|x| is_changed(r, before, after, *x))
+        .count() as u8
 }

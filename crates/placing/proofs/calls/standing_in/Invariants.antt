@@ -1,10 +1,8 @@
--- The mask has the rules from i on that stand.
-use Rattle.std.proofs.Common.{◌≡◌, ◌≤◌, drop}
-use Rattle.placing.specs.Board.{standing_from}
+-- The mask so far and that of the rules from x on are the whole mask.
+use Rattle.std.proofs.Common.{◌≡◌, drop}
+use lib.Bits.{bit_or}
+use Rattle.placing.specs.Board.{standing_from, standing_mask}
 use Rattle.placing.proofs.calls.standing_in.Given as goal
 
-abbrev pub invariant-loop-i : goal.invariant-loop-i
-invariant-loop-i l = (l.mask ≡ standing_from l.i (drop l.i l.states)) × (l.i ≤ 64)
-
-abbrev pub decreases-loop-i : goal.decreases-loop-i
-decreases-loop-i l = l.i
+abbrev pub invariant-loop-x : goal.invariant-loop-x
+invariant-loop-x l = bit_or l.mask (standing_from l.x (drop l.x l.states)) ≡ standing_mask l.states

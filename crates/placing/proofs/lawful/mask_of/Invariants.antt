@@ -1,10 +1,8 @@
--- The mask is that of the cells from i on, and all of them are below 64.
-use Rattle.std.proofs.Common.{◌≡◌, ◌≤◌, length, drop}
+-- The mask so far and that of the cells that are left are the whole mask.
+use Rattle.std.proofs.Common.{◌≡◌, drop}
+use lib.Bits.{bit_or}
 use Rattle.placing.specs.Board.{mask_of}
 use Rattle.placing.proofs.lawful.mask_of.Given as goal
 
-abbrev pub invariant-loop-i : goal.invariant-loop-i
-invariant-loop-i l = (l.mask ≡ mask_of (drop l.i l.cells)) × (l.i ≤ length l.cells)
-
-abbrev pub decreases-loop-i : goal.decreases-loop-i
-decreases-loop-i l = l.i
+abbrev pub invariant-loop-cell : goal.invariant-loop-cell
+invariant-loop-cell l = bit_or l.mask (mask_of (drop l.cell-index l.cells)) ≡ mask_of l.cells

@@ -1,17 +1,15 @@
 -- An accepted removal leaves a board.
-use Rattle.std.proofs.Common.{ℕ, List, Ok, sym, subst, arith, rules}
+use Rattle.std.proofs.Common.{Ok, arith, rules}
 use Rattle.ranks.specs.Numbers.{rank_in}
 use Rattle.placing.specs.Answers.{RemovesFrom}
-use Rattle.ranks.specs.Numbers.{Distinct}
-use Rattle.ranks.proofs.RankNumbers.{not_shared}
-use Rattle.placing.proofs.Writing.{removes_board, board_of, remove_settles}
+use Rattle.placing.proofs.Writing.{removes_board, board_of, numbers_distinct, remove_settles}
 use Rattle.placing.proofs.board.Board.remove.Goals as goal
 
 pub of-requires : goal.of-requires
 of-requires c =
     let b = c.args.self.now in
-    let distinct = subst (λ (of : List ℕ). Distinct (rank_in of)) (sym c.numbers.ensures) (not_shared (rank_in c.args.ranks.now.of) c.args.ranks.now.distinct) in
-    removes_board b.rules b.states (rank_in c.numbers.result.now) c.args.r (board_of b) distinct (omega (arith, c.if-n-ge-RULES.false, c.from-n.ensures)) c.without_rule-after.ensures
+    let distinct = numbers_distinct c.args.ranks.now c.numbers.result.now c.numbers.ensures in
+    removes_board b.rules b.states (rank_in c.numbers.result.now) c.args.r (board_of b) distinct (omega (arith, c.if-n-ge-RULES.false, c.from-n.ensures)) c.remove-after.ensures
 
 pub returns : goal.returns
 returns c =

@@ -1,7 +1,7 @@
 -- What is done for each output of a way, seen at one cell: where a place does nothing but at its own cell, each output's
 -- cell shows what was done for it, and every other cell what it showed before.
-use Rattle.std.proofs.Common.{◌≡◌, ℕ, suc, true, cond, List, [], ◌∷◌, sym, refl, ap, ◌∙◌, subst, arith}
-use Rattle.std.proofs.lemmas.Bool.{cond_both, cond-true}
+use Rattle.std.proofs.Common.{◌≡◌, ℕ, suc, true, cond, List, [], ◌∷◌, refl, ap, ◌∙◌, subst, arith}
+use Rattle.std.proofs.lemmas.Bool.{cond-true}
 use Rattle.meaning.specs.Masks.{bit}
 use Rattle.figures.specs.Update.{each_output}
 use Rattle.figures.proofs.Naming.{NamesFrom, here, there, from_on}
@@ -13,8 +13,7 @@ module _ {X Y : Type 0} (read : X → ℕ → Y) (f : ℕ → ℕ → X → X) (
   first_named k c e cs b q = subst (λ (n : ℕ). NamesFrom mask true k (c ∷ cs) k n) q (here b)
 
   place_other : (k c e : ℕ) (x : X) → (bit mask k ≡ true → c ≡ e → ⊥) → read (cond (bit mask k) (f k c x) x) e ≡ read x e
-  place_other k c e x differs =
-      cond_both (bit mask k) (f k c x) x (λ y. read y e ≡ read x e) (λ b. frame k c x e (λ q. differs b (sym q))) (λ _. refl)
+  place_other k c e x differs = let same = frame k c x e in grind arith
 
   -- A cell that is no output shows what it showed.
   pub each_other : (k : ℕ) (cs : List ℕ) (x : X) (e : ℕ) → ((i : ℕ) → NamesFrom mask true k cs i e → ⊥) → read (each_output f mask k cs x) e ≡ read x e

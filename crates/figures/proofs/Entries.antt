@@ -1,15 +1,15 @@
 -- What working a way out leaves at each cell.
-use Rattle.std.proofs.Common.{◌≡◌, ℕ, zero, suc, ◌+◌, ◌<◌, Bool, true, false, cond, not, ◌&&◌, ◌||◌, ltb, List, [], ◌∷◌, map, length, get_or, set, Some, None, Ok, Err, Option, Result, sym, refl, ap, ◌∙◌, ⊎_elim, arith, length-set, get_or-set_other, get_or-set_same}
-use Rattle.std.proofs.lemmas.Bool.{both_ways, cases_Bool, cond_both, cond-true, cond-false}
+use Rattle.std.proofs.Common.{◌≡◌, ℕ, zero, suc, ◌+◌, ◌<◌, Bool, true, false, List, [], ◌∷◌, map, length, get_or, set, Some, None, Ok, Err, Option, Result, refl, ap, ◌∙◌, arith}
+use Rattle.std.proofs.lemmas.Grind.{common_steps, elements}
 use Rattle.meaning.specs.declared.Fault.{Fault}
 use Rattle.meaning.specs.Masks.{bit}
 use Rattle.meaning.specs.Calc.{Answer, gives, faults, Calc, inputs_from, figure_at, input_figures, told, tells}
 use Rattle.figures.specs.declared.ways.SelectedWay.{SelectedWay}
 use Rattle.figures.specs.declared.blanks.Cause.{Cause}
-use Rattle.figures.specs.declared.blanks.Cause.TheVariants.{Faulted, InputBlank}
+use Rattle.figures.specs.declared.blanks.Cause.TheVariants.{InputBlank}
 use Rattle.figures.specs.Ways.{places_of, Output, Input}
-use Rattle.figures.specs.Blanks.{cause_at, caused, is_blank}
-use Rattle.figures.specs.Update.{Table, told_to, blanked, asked_at, asked, blank_from, has_blank_input, worked_out}
+use Rattle.figures.specs.Blanks.{cause_at}
+use Rattle.figures.specs.Update.{Table, told_to, blanked, asked_at, asked, blank_from, worked_out}
 use Rattle.figures.specs.Laws.{Fits, Shown, figure, blank, answered, made}
 use Rattle.figures.proofs.Naming.{NamesFrom, here, there, names_from, from_names}
 use Rattle.figures.proofs.EachOutput.{each_other, each_at}
@@ -37,15 +37,10 @@ landed (blank why) e = record { cells = e.cells; shown = e.shown; marks = e.mark
 -- Only one output names the cell that an output names, and no input does.
 module _ {F : Type 0} (m : Calc F) (n : ℕ) (w : SelectedWay) (fits : Fits m n w) where
   pub one_output : (i c : ℕ) → Output w i c → (j : ℕ) → NamesFrom w.outputs true 0 (places_of w) j c → j ≡ i
-  one_output i c out j named =
-      let other = from_names w j c named in
-      fits.cells_differ j i other.placed out.placed (other.names ∙ sym out.names)
+  one_output i c out j named = let other = from_names w j c named in grind (arith, fits.cells_differ)
 
   pub input_apart : (i c : ℕ) → Input w i c → (j : ℕ) → NamesFrom w.outputs true 0 (places_of w) j c → ⊥
-  input_apart i c inp j named =
-      let other = from_names w j c named in
-      let same = fits.cells_differ j i other.placed inp.placed (other.names ∙ sym inp.names) in
-      both_ways _ inp.direction (ap (bit w.outputs) (sym same) ∙ other.direction)
+  input_apart i c inp j named = let other = from_names w j c named in let same = fits.cells_differ j i in grind arith
 
 -- Blanking the outputs of a way, seen at one cell: the list's length stays, and elsewhere the cause.
 abbrev pub Marked : Type 0
@@ -55,7 +50,7 @@ abbrev pub marked : List (Option Cause) → ℕ → Marked
 marked blanks c = (length blanks, cause_at blanks c)
 
 mark_frame : (why : Cause) (i c : ℕ) (b : List (Option Cause)) (e : ℕ) → (e ≡ c → ⊥) → marked (set b c (Some why)) e ≡ marked b e
-mark_frame why i c b e ne = let p = length-set b c (Some why) in let q = get_or-set_other b c e (Some why) None ne in cc
+mark_frame why i c b e ne = grind (arith, common_steps, elements)
 
 pub blanked_other : (why : Cause) (w : SelectedWay) (b : List (Option Cause)) (e : ℕ) → ((i : ℕ) → Output w i e → ⊥) → marked (blanked why w b) e ≡ marked b e
 blanked_other why w b e none =
@@ -64,54 +59,31 @@ blanked_other why w b e none =
 pub blanked_at : {F : Type 0} (m : Calc F) (n : ℕ) (w : SelectedWay) → Fits m n w → (why : Cause) (b : List (Option Cause)) (i c : ℕ) → Output w i c → c < length b → marked (blanked why w b) c ≡ (length b, Some why)
 blanked_at m n w fits why b i c out lt =
     let at = each_at marked (λ i c b. set b c (Some why)) w.outputs (mark_frame why) b (names_from w i c out) (one_output m n w fits i c out) in
-    let size : length at.0 ≡ length b = ap (λ (p : Marked). p.0) at.2 in
-    let p : length (set at.0 c (Some why)) ≡ length b = length-set at.0 c (Some why) ∙ size in
-    let q : cause_at (set at.0 c (Some why)) c ≡ Some why = get_or-set_same at.0 c (Some why) None (omega arith) in
-    at.1 ∙ (let z : marked (set at.0 c (Some why)) c ≡ (length b, Some why) = cc in z)
+    grind (arith, common_steps, elements)
 
 -- What is told of an output and written to its cell leaves every other cell as it was.
 told_frame : {F : Type 0} (start : F) (r : Result F Fault) (c : ℕ) (t : Table F) (e : ℕ) → (e ≡ c → ⊥) → entry start (told_to r c t) e ≡ entry start t e
-told_frame start (Ok x) c t e ne =
-    let p = length-set t.figures c x in
-    let q = get_or-set_other t.figures c e x start ne in
-    let r = length-set t.blanks c None in
-    let s = get_or-set_other t.blanks c e None None ne in
-    cc
-told_frame start (Err fault) c t e ne =
-    let r = length-set t.blanks c (Some (Faulted fault.number)) in
-    let s = get_or-set_other t.blanks c e (Some (Faulted fault.number)) None ne in
-    cc
+told_frame start (Ok x) c t e ne = grind (arith, common_steps, elements)
+told_frame start (Err fault) c t e ne = grind (arith, common_steps, elements)
 
 -- At the cell itself it lands as what the answer shows.
 told_at : {F : Type 0} (start : F) (a : Answer F) (i c : ℕ) (t : Table F) → c < length t.figures → c < length t.blanks → entry start (told_to (told a i) c t) c ≡ landed (answered a i) (entry start t c)
-told_at start (gives f) i c t lf lb =
-    let p = length-set t.figures c (f i) in
-    let q = get_or-set_same t.figures c (f i) start lf in
-    let r = length-set t.blanks c None in
-    let s = get_or-set_same t.blanks c None None lb in
-    cc
-told_at start (faults n) i c t lf lb =
-    let r = length-set t.blanks c (Some (Faulted n)) in
-    let s = get_or-set_same t.blanks c (Some (Faulted n)) None lb in
-    cc
+told_at start (gives f) i c t lf lb = grind (arith, common_steps, elements)
+told_at start (faults n) i c t lf lb = grind (arith, common_steps, elements)
 
 -- Two functions that agree at each place that is no output make the same list of the inputs.
 inputs_agree : {F : Type 0} (f g : ℕ → F) (output : ℕ → Bool) (k n : ℕ) → ((i : ℕ) → i < k + n → output i ≡ false → f i ≡ g i) → map f (inputs_from output k n) ≡ map g (inputs_from output k n)
 inputs_agree f g output k zero agree = refl
 inputs_agree f g output k (suc n) agree =
-    let rest = inputs_from output (suc k) n in
-    let tail : map f rest ≡ map g rest = inputs_agree f g output (suc k) n (λ i lt e. agree i (omega arith) e) in
-    cond_both (output k) rest (k ∷ rest) (λ is. map f is ≡ map g is) (λ _. tail) (λ e. let head : f k ≡ g k = agree k (omega arith) e in cc)
+    let tail = inputs_agree f g output (suc k) n (λ i lt e. agree i (omega arith) e) in let head = agree k in grind arith
 
 -- Whether an input is blank depends on the inputs' causes alone.
 blank_agree : (mask k : ℕ) (cs : List ℕ) (b d : List (Option Cause)) → ((i e : ℕ) → NamesFrom mask false k cs i e → cause_at b e ≡ cause_at d e) → blank_from mask k cs b ≡ blank_from mask k cs d
 blank_agree mask k [] b d agree = refl
 blank_agree mask k (c ∷ cs) b d agree =
-    ap (λ (u : Bool). u || blank_from mask (suc k) cs b) (first (bit mask k) refl) ∙ ap (λ (u : Bool). (not (bit mask k) && is_blank d c) || u) (blank_agree mask (suc k) cs b d (λ i e n. agree i e (there n)))
-  where
-    first : (o : Bool) → bit mask k ≡ o → (not o && is_blank b c) ≡ (not o && is_blank d c)
-    first true e = refl
-    first false e = ap caused (agree k c (here e))
+    let tail = blank_agree mask (suc k) cs b d (λ i e n. agree i e (there n)) in
+    let head : bit mask k ≡ false → cause_at b c ≡ cause_at d c = λ e. agree k c (here e) in
+    grind arith
 
 module _ {F : Type 0} (m : Calc F) (n : ℕ) (w : SelectedWay) (fits : Fits m n w) (p : F) where
   abbrev at : Table F → ℕ → Entry F
@@ -124,13 +96,17 @@ module _ {F : Type 0} (m : Calc F) (n : ℕ) (w : SelectedWay) (fits : Fits m n 
   -- Then the inputs' figures are the same.
   figures_agree : (s t : Table F) → SameInputs s t → input_figures m w.kind w.way s.figures (places_of w) ≡ input_figures m w.kind w.way t.figures (places_of w)
   figures_agree s t same =
-      inputs_agree (figure_at m.start s.figures (places_of w)) (figure_at m.start t.figures (places_of w)) (m.output w.kind w.way) 0 (m.places w.kind) (λ i lt e. let within : i < length (places_of w) = omega (arith, fits.all_placed) in ap (λ (x : F). cond (ltb i (length (places_of w))) x m.start) (ap (λ (z : Entry F). z.shown) (same i (get_or (places_of w) i 0) (record { placed = within; names = refl; direction = fits.outputs_fixed i within ∙ e }))))
+      inputs_agree (figure_at m.start s.figures (places_of w)) (figure_at m.start t.figures (places_of w)) (m.output w.kind w.way) 0 (m.places w.kind) (λ i lt e.
+      let within : i < length (places_of w) = omega (arith, fits.all_placed) in
+      let at = same i (get_or (places_of w) i 0) (record { placed = within; names = refl; direction = fits.outputs_fixed i within ∙ e }) in
+      grind arith)
 
   -- And so is what the way makes of them.
   pub made_agree : (s t : Table F) → SameInputs s t → (i : ℕ) → made m w p s i ≡ made m w p t i
   made_agree s t same i =
-      ap (λ (u : Bool). cond u (blank InputBlank) (answered (m.answer w.kind w.way p (input_figures m w.kind w.way s.figures (places_of w))) i)) (blank_agree w.outputs 0 (places_of w) s.blanks t.blanks (λ j e named. ap (λ (z : Entry F). z.cause) (same j e (from_names w j e named))))
-      ∙ ap (λ (xs : List F). cond (has_blank_input w t.blanks) (blank InputBlank) (answered (m.answer w.kind w.way p xs) i)) (figures_agree s t same)
+      let blank = blank_agree w.outputs 0 (places_of w) s.blanks t.blanks (λ j e named. ap (λ (z : Entry F). z.cause) (same j e (from_names w j e named))) in
+      let figures = figures_agree s t same in
+      cc
 
   asked_frame : (i c : ℕ) (t : Table F) (e : ℕ) → (e ≡ c → ⊥) → at (asked_at m w p i c t) e ≡ at t e
   asked_frame i c t e ne = told_frame m.start (tells m w.kind w.way p t.figures (places_of w) i) c t e ne
@@ -145,18 +121,16 @@ module _ {F : Type 0} (m : Calc F) (n : ℕ) (w : SelectedWay) (fits : Fits m n 
       let it = each_at at (asked_at m w p) w.outputs asked_frame t (names_from w i c out) (one_output m n w fits i c out) in
       let s = it.0 in
       let same : SameInputs s t = λ j e inp. it.3 e (input_apart m n w fits j e inp) in
-      let cells : length s.figures ≡ length t.figures = ap (λ (z : Entry F). z.cells) it.2 in
-      let marks : length s.blanks ≡ length t.blanks = ap (λ (z : Entry F). z.marks) it.2 in
-      it.1 ∙ told_at m.start (m.answer w.kind w.way p (input_figures m w.kind w.way s.figures (places_of w))) i c s (omega arith) (omega arith)
-      ∙ ap (λ (xs : List F). landed (answered (m.answer w.kind w.way p xs) i) (at s c)) (figures_agree s t same) ∙ ap (landed (answered (m.answer w.kind w.way p (input_figures m w.kind w.way t.figures (places_of w))) i)) it.2
+      let lands = told_at m.start (m.answer w.kind w.way p (input_figures m w.kind w.way s.figures (places_of w))) i c s in
+      let figures = figures_agree s t same in
+      grind arith
 
   -- A way that is worked out leaves every cell but its outputs as it was.
   pub worked_other : (t : Table F) (e : ℕ) → ((i : ℕ) → Output w i e → ⊥) → at (worked_out m w p t) e ≡ at t e
   worked_other t e none =
-      cond_both (has_blank_input w t.blanks) _ _ (λ (s : Table F). at s e ≡ at t e) (λ _. let q = blanked_other InputBlank w t.blanks e none in ap (λ (z : Marked). record { cells = length t.figures; shown = get_or t.figures e m.start; marks = z.0; cause = z.1 }) q) (λ _. asked_other t e none)
+      let blanked = blanked_other InputBlank w t.blanks e none in let asked = asked_other t e none in grind arith
 
   -- At an output's cell lands what the way makes of the table.
   pub worked_at : (t : Table F) (i c : ℕ) → Output w i c → c < length t.figures → c < length t.blanks → at (worked_out m w p t) c ≡ landed (made m w p t i) (at t c)
   worked_at t i c out lf lb =
-      ⊎_elim (λ e. ap (λ (s : Table F). at s c) (cond-true (has_blank_input w t.blanks) _ _ e) ∙ ap (λ (z : Marked). record { cells = length t.figures; shown = get_or t.figures c m.start; marks = z.0; cause = z.1 }) (blanked_at m n w fits InputBlank t.blanks i c out lb) ∙ ap (λ (z : Shown F). landed z (at t c)) (sym (cond-true (has_blank_input w t.blanks) _ _ e)))
-      (λ e. ap (λ (s : Table F). at s c) (cond-false (has_blank_input w t.blanks) _ _ e) ∙ asked_at_lem t i c out lf lb ∙ ap (λ (z : Shown F). landed z (at t c)) (sym (cond-false (has_blank_input w t.blanks) _ _ e))) (cases_Bool (has_blank_input w t.blanks))
+      let blanked = blanked_at m n w fits InputBlank t.blanks i c out lb in let asked = asked_at_lem t i c out lf lb in grind arith

@@ -1,6 +1,5 @@
 -- What blanking the outputs of the held rules leaves at each cell.
-use Rattle.std.proofs.Common.{◌≡◌, ℕ, ◌<◌, ◌≤◌, true, eqb, List, [], ◌∷◌, length, get_or, Some, None, Option, sym, refl, ap, ◌∙◌, ⊎_elim, arith}
-use Rattle.std.proofs.lemmas.Bool.{or_left, or_right, eq-eqb}
+use Rattle.std.proofs.Common.{◌≡◌, ℕ, ◌<◌, ◌≤◌, true, List, [], ◌∷◌, length, get_or, Some, None, Option, sym, refl, ap, ◌∙◌, ⊎_elim, arith}
 use Rattle.meaning.specs.Lists.{is_on}
 use Rattle.meaning.specs.Calc.{Calc}
 use Rattle.planning.proofs.Members.{on_cases}
@@ -20,10 +19,10 @@ NoneGives rows xs c = (x i : ℕ) (w : SelectedWay) → is_on x xs ≡ true → 
 
 -- Then neither its first rule does, nor one of the rest.
 pub first_none : (rows : List (Option SelectedWay)) (x : ℕ) (xs : List ℕ) (c : ℕ) → NoneGives rows (x ∷ xs) c → (w : SelectedWay) → InForceBy rows x w → (i : ℕ) → Output w i c → ⊥
-first_none rows x xs c none w by i out = none x i w (or_left (eqb x x) (is_on x xs) (eq-eqb x x refl)) by out
+first_none rows x xs c none w by i out = none x i w (grind arith) by out
 
 pub rest_none : (rows : List (Option SelectedWay)) (x : ℕ) (xs : List ℕ) (c : ℕ) → NoneGives rows (x ∷ xs) c → NoneGives rows xs c
-rest_none rows x xs c none y i w on by out = none y i w (or_right (eqb y x) (is_on y xs) on) by out
+rest_none rows x xs c none y i w on by out = none y i w (grind arith) by out
 
 -- A cell that no held rule gives keeps its cause.
 held_other : (row : Option SelectedWay) (b : List (Option Cause)) (c : ℕ) → ((w : SelectedWay) → row ≡ Some w → (i : ℕ) → Output w i c → ⊥) → marked (held_by row b) c ≡ marked b c
@@ -36,9 +35,12 @@ holds_other rows (x ∷ xs) b c none =
     holds_other rows xs (held_by (get_or rows x None) b) c (rest_none rows x xs c none) ∙ held_other (get_or rows x None) b c (first_none rows x xs c none)
 
 module _ {F : Type 0} (m : Calc F) (n : ℕ) (rows : List (Option SelectedWay)) (fit : (x : ℕ) (w : SelectedWay) → InForceBy rows x w → Fits m n w) where
-  -- No rule gives a cell from n on.
+  -- A rule gives no cell but the first n.
+  pub output_below : (x i c : ℕ) (w : SelectedWay) → InForceBy rows x w → Output w i c → c < n
+  output_below x i c w by out = let there = (fit x w by).cells_there i out.placed in omega (arith, out.names)
+
   pub past_none : (x i : ℕ) (w : SelectedWay) → InForceBy rows x w → Output w i n → ⊥
-  past_none x i w by out = let lt = (fit x w by).cells_there i out.placed in omega (arith, out.names)
+  past_none x i w by out = let lt = output_below x i n w by out in omega arith
 
   -- So the list of causes keeps its length.
   pub holds_length : (xs : List ℕ) (b : List (Option Cause)) → length (holds rows xs b) ≡ length b
@@ -53,13 +55,11 @@ module _ {F : Type 0} (m : Calc F) (n : ℕ) (rows : List (Option SelectedWay)) 
   holds_stays : (xs : List ℕ) (b : List (Option Cause)) (c : ℕ) → c < length b → cause_at b c ≡ Some GiverHeld → cause_at (holds rows xs b) c ≡ Some GiverHeld
   holds_stays [] b c lt is = is
   holds_stays (x ∷ xs) b c lt is =
-      let now' = held_stays x (get_or rows x None) refl b c lt is in
-      let size : length (held_by (get_or rows x None) b) ≡ length b = ap (λ (z : Marked). z.0) now' in
-      holds_stays xs (held_by (get_or rows x None) b) c (omega arith) (ap (λ (z : Marked). z.1) now')
+      let now' = held_stays x (get_or rows x None) refl b c lt is in holds_stays xs (held_by (get_or rows x None) b) c (grind arith) (grind arith)
 
   -- A cell that a held rule gives has this cause.
   pub holds_at : (xs : List ℕ) (b : List (Option Cause)) → n ≤ length b → (x i c : ℕ) (w : SelectedWay) → is_on x xs ≡ true → InForceBy rows x w → Output w i c → cause_at (holds rows xs b) c ≡ Some GiverHeld
-  holds_at [] b le x i c w on by out = absurd (let z : ◌≡◌ {A = ℕ} 0 1 = cc in omega arith)
+  holds_at [] b le x i c w on by out = grind arith
   holds_at (y ∷ ys) b le x i c w on by out =
       let size : length (held_by (get_or rows y None) b) ≡ length b = holds_length (y ∷ []) b in
       ⊎_elim first (λ later. holds_at ys (held_by (get_or rows y None) b) (omega arith) x i c w later by out) (on_cases x y ys on)
@@ -67,7 +67,6 @@ module _ {F : Type 0} (m : Calc F) (n : ℕ) (rows : List (Option SelectedWay)) 
       first : x ≡ y → cause_at (holds rows (y ∷ ys) b) c ≡ Some GiverHeld
       first e =
           let row : get_or rows y None ≡ Some w = ap (λ (z : ℕ). get_or rows z None) (sym e) ∙ by in
-          let lt : c < n = (let there = (fit x w by).cells_there i out.placed in omega (arith, out.names)) in
+          let lt = output_below x i c w by out in
           let now' : marked (held_by (get_or rows y None) b) c ≡ (length b, Some GiverHeld) = ap (λ (r : Option SelectedWay). marked (held_by r b) c) row ∙ blanked_at m n w (fit x w by) GiverHeld b i c out (omega arith) in
-          let size : length (held_by (get_or rows y None) b) ≡ length b = ap (λ (z : Marked). z.0) now' in
-          holds_stays ys (held_by (get_or rows y None) b) c (omega arith) (ap (λ (z : Marked). z.1) now')
+          holds_stays ys (held_by (get_or rows y None) b) c (grind arith) (grind arith)

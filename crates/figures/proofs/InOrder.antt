@@ -11,19 +11,20 @@ use Rattle.figures.specs.declared.ways.SelectedWay.{SelectedWay}
 use Rattle.figures.specs.Ways.{InForceBy, Names, Output, flows_of}
 use Rattle.figures.specs.Laws.{Fits}
 use Rattle.figures.proofs.Naming.{gives_output, reads_input}
+use Rattle.figures.proofs.Holding.{output_below}
 use Rattle.figures.proofs.Turning.{InOrder}
 
 module _ {F : Type 0} (m : Calc F) (n : ℕ) (few : n ≤ 64) (rows : List (Option SelectedWay)) (fit : (x : ℕ) (w : SelectedWay) → InForceBy rows x w → Fits m n w) (one : NoTwoGivers (flows_of rows)) where
   -- A rule that gives a cell of a ready rule is planned or is that rule: it gives an input, or the cell would have two givers.
   giver_planned : (planned : List ℕ) (y z : ℕ) (v w : SelectedWay) → Ready (flows_of rows) planned y → InForceBy rows y w → InForceBy rows z v → (output : Bool) (i j c : ℕ) → Names output w i c → Output v j c → is_on z (planned ++ y ∷ []) ≡ true
   giver_planned planned y z v w ready by bv true i j c named out =
-      let lt = (fit z v bv).cells_there j out.placed in
-      let below : c < 64 = omega (arith, out.names) in
+      let lt = output_below m n rows fit z j c v bv out in
+      let below : c < 64 = omega arith in
       let same = one z y c (gives_output rows z v bv j c below out) (gives_output rows y w by i c below named) in
       subst (λ (x : ℕ). is_on x (planned ++ y ∷ []) ≡ true) (sym same) (on_last y planned)
   giver_planned planned y z v w ready by bv false i j c named out =
-      let lt = (fit z v bv).cells_there j out.placed in
-      let below : c < 64 = omega (arith, out.names) in
+      let lt = output_below m n rows fit z j c v bv out in
+      let below : c < 64 = omega arith in
       on_left z planned (y ∷ []) (ready.supplied z (c, gives_output rows z v bv j c below out, reads_input rows y w by i c below named))
 
   -- So none that is planned later gives one.

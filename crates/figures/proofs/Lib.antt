@@ -1,4 +1,3 @@
-pub mod Places
 pub mod Naming
 pub mod EachOutput
 pub mod Entries

@@ -1,12 +1,11 @@
 -- Every figure stays one that the calculator takes.
-use Rattle.std.proofs.Common.{◌≡◌, ℕ, true, eqb, ltb, List, [], ◌∷◌, length, get_or, Option, sym, refl, ap, ◌∙◌, subst, ⊎_elim, arith}
-use Rattle.std.proofs.lemmas.Bool.{cases_Bool, cond_both, cond-true, cond-false, ltb-true, or_left, or_right, eq-eqb}
-use Rattle.meaning.specs.Lists.{is_on}
+use Rattle.std.proofs.Common.{◌≡◌, ℕ, true, ltb, List, [], ◌∷◌, length, get_or, Option, sym, refl, subst, ⊎_elim, arith}
+use Rattle.std.proofs.lemmas.Bool.{cond_both, ltb-true}
 use Rattle.meaning.specs.Calc.{Answer, gives, faults, Calc, CalcLaws, Proper, figure_at, input_figures}
 use Rattle.meaning.proofs.Taken.{answer_proper}
 use Rattle.figures.specs.declared.ways.SelectedWay.{SelectedWay}
 use Rattle.figures.specs.Ways.{places_of, InForceBy, Output}
-use Rattle.figures.specs.Update.{Table, has_blank_input, turn, turns}
+use Rattle.figures.specs.Update.{Table, turns}
 use Rattle.figures.specs.Laws.{Fits, Shown, figure, blank, answered, made, AllTaken, ParametersTaken}
 use Rattle.figures.proofs.Entries.{Entry, entry, landed, worked_at}
 use Rattle.figures.proofs.Turning.{Wide, behind, wide_behind, given_or_kept}
@@ -17,8 +16,8 @@ module _ {F : Type 0} (m : Calc F) (laws : CalcLaws m) where
 
   -- An answer that is proper shows a figure that is taken, if it shows one.
   answered_taken : (kind way i : ℕ) (a : Answer F) → Proper m kind way a → m.output kind way i ≡ true → (x : F) → answered a i ≡ figure x → Takes x
-  answered_taken kind way i (gives f) proper out x e = let same : f i ≡ x = cc in subst Takes same (proper i out)
-  answered_taken kind way i (faults k) proper out x e = let z : ◌≡◌ {A = ℕ} 0 1 = cc in absurd (omega arith)
+  answered_taken kind way i (gives f) proper out x e = let taken = proper i out in grind arith
+  answered_taken kind way i (faults k) proper out x e = grind arith
 
   -- What lands in an entry leaves a taken figure there.
   landed_taken : (v : Shown F) (e : Entry F) → ((x : F) → v ≡ figure x → Takes x) → Takes e.shown → Takes (landed v e).shown
@@ -33,8 +32,10 @@ module _ {F : Type 0} (m : Calc F) (laws : CalcLaws m) where
     -- A figure that a way makes of taken figures is taken.
     pub made_taken : (i c : ℕ) → Output w i c → (x : F) → made m w p t i ≡ figure x → Takes x
     made_taken i c out x e =
-        ⊎_elim (λ b. let no : blank _ ≡ figure x = sym (cond-true (has_blank_input w t.blanks) _ _ b) ∙ e in let z : ◌≡◌ {A = ℕ} 0 1 = cc in absurd (omega arith))
-        (λ b. answered_taken w.kind w.way i (m.answer w.kind w.way p (input_figures m w.kind w.way t.figures (places_of w))) (answer_proper m laws w.kind w.way p t.figures (places_of w) fits.kind_known fits.way_known tp place_taken) (sym (fits.outputs_fixed i out.placed) ∙ out.direction) x (sym (cond-false (has_blank_input w t.blanks) _ _ b) ∙ e)) (cases_Bool (has_blank_input w t.blanks))
+        let proper = answer_proper m laws w.kind w.way p t.figures (places_of w) fits.kind_known fits.way_known tp place_taken in
+        let fixed = fits.outputs_fixed i out.placed in
+        let shown = answered_taken w.kind w.way i (m.answer w.kind w.way p (input_figures m w.kind w.way t.figures (places_of w))) proper in
+        grind arith
 
   module _ (n : ℕ) (rows : List (Option SelectedWay)) (ps : List F) (fit : (x : ℕ) (w : SelectedWay) → InForceBy rows x w → Fits m n w) where
     -- A turn with a taken parameter leaves taken figures.
@@ -47,11 +48,12 @@ module _ {F : Type 0} (m : Calc F) (laws : CalcLaws m) where
 
         given : (w : SelectedWay) → InForceBy rows x w → (i : ℕ) → Output w i c → Takes (get_or (behind m n rows ps fit x t).figures c m.start)
         given w by i out =
-            let lands : entry m.start (behind m n rows ps fit x t) c ≡ landed (made m w p t i) (entry m.start t c) = ap (λ (row : Option SelectedWay). entry m.start (turn m p row t) c) by ∙ worked_at m n w (fit x w by) p t i c out (omega (arith, wide.figures_wide)) (omega (arith, wide.blanks_wide)) in
-            subst (λ (e : Entry F). Takes e.shown) (sym lands) (landed_taken (made m w p t i) (entry m.start t c) (made_taken n w (fit x w by) p tp t taken i c out) (taken c lt))
+            let lands = worked_at m n w (fit x w by) p t i c out (omega (arith, wide.figures_wide)) (omega (arith, wide.blanks_wide)) in
+            let shown = landed_taken (made m w p t i) (entry m.start t c) (made_taken n w (fit x w by) p tp t taken i c out) (taken c lt) in
+            grind arith
 
     -- And so do the turns of some rules.
     pub turns_taken : (xs : List ℕ) (t : Table F) → Wide m n rows ps fit t → ParametersTaken m ps xs → AllTaken m n t.figures → AllTaken m n (turns m rows ps xs t).figures
     turns_taken [] t wide parameters taken = taken
     turns_taken (x ∷ xs) t wide parameters taken =
-        turns_taken xs (behind m n rows ps fit x t) (wide_behind m n rows ps fit x t wide) (λ y on. parameters y (or_right (eqb y x) (is_on y xs) on)) (turn_taken x t wide (parameters x (or_left (eqb x x) (is_on x xs) (eq-eqb x x refl))) taken)
+        turns_taken xs (behind m n rows ps fit x t) (wide_behind m n rows ps fit x t wide) (λ y on. parameters y (grind arith)) (turn_taken x t wide (parameters x (grind arith)) taken)

@@ -1,17 +1,18 @@
 -- What the rules' turns leave at each cell, where the rules come in an order in which no later one disturbs an earlier one.
-use Rattle.std.proofs.Common.{◌≡◌, ℕ, ◌<◌, ◌≤◌, Bool, true, false, ◌⊎◌, List, [], ◌∷◌, length, get_or, Some, None, Option, sym, refl, ap, ◌∙◌, subst, inl, inr, ⊎_elim, arith}
+use Rattle.std.proofs.Common.{◌≡◌, ℕ, ◌≤◌, Bool, true, false, ◌⊎◌, List, [], ◌∷◌, length, get_or, Some, None, Option, sym, refl, ap, ◌∙◌, subst, inl, inr, ⊎_elim, arith}
 use Rattle.std.proofs.lemmas.Bool.{both_ways}
 use Rattle.meaning.specs.Lists.{is_on}
 use Rattle.meaning.specs.Calc.{Calc}
 use Rattle.planning.proofs.Members.{on_cases}
 use Rattle.figures.specs.declared.ways.SelectedWay.{SelectedWay}
 use Rattle.figures.specs.Ways.{InForceBy, Names, Output}
-use Rattle.figures.specs.Blanks.{caused, is_blank}
+use Rattle.std.specs.Option.{is_some}
+use Rattle.figures.specs.Blanks.{is_blank}
 use Rattle.figures.specs.Update.{Table, worked_out, turn, turns}
 use Rattle.figures.specs.Laws.{Fits, Shown, figure, blank, shown_by, shows, made}
 use Rattle.figures.proofs.Naming.{names_from, decide_output}
 use Rattle.figures.proofs.Entries.{Entry, entry, landed, input_apart, made_agree, worked_other, worked_at}
-use Rattle.figures.proofs.Holding.{NoneGives, first_none, rest_none, past_none}
+use Rattle.figures.proofs.Holding.{NoneGives, first_none, rest_none, output_below, past_none}
 
 -- No rule on the list gives a cell that a place of rule x names.
 abbrev pub Undisturbed : List (Option SelectedWay) → ℕ → List ℕ → Type 0
@@ -28,8 +29,8 @@ shown_landed (figure x) e = refl
 shown_landed (blank why) e = refl
 
 -- If that is a blank, the figure is the one before.
-blank_landed : {F : Type 0} (v : Shown F) (e : Entry F) → caused (landed v e).cause ≡ true → (landed v e).shown ≡ e.shown
-blank_landed (figure x) e h = absurd (both_ways _ refl h)
+blank_landed : {F : Type 0} (v : Shown F) (e : Entry F) → is_some (landed v e).cause ≡ true → (landed v e).shown ≡ e.shown
+blank_landed (figure x) e h = grind arith
 blank_landed (blank why) e h = refl
 
 module _ {F : Type 0} (m : Calc F) (n : ℕ) (rows : List (Option SelectedWay)) (ps : List F) (fit : (x : ℕ) (w : SelectedWay) → InForceBy rows x w → Fits m n w) where
@@ -60,15 +61,12 @@ module _ {F : Type 0} (m : Calc F) (n : ℕ) (rows : List (Option SelectedWay)) 
   pub turns_sizes : (xs : List ℕ) (t : Table F) → (length (turns m rows ps xs t).figures ≡ length t.figures) × (length (turns m rows ps xs t).blanks ≡ length t.blanks)
   turns_sizes xs t =
       let same = turns_other xs t n (λ x i w _ by out. past_none m n rows fit x i w by out) in
-      (ap (λ (z : Entry F). z.cells) same, ap (λ (z : Entry F). z.marks) same)
+      (grind arith, grind arith)
 
   pub wide_behind : (x : ℕ) (t : Table F) → Wide t → Wide (behind x t)
   wide_behind x t wide =
       let sizes = turns_sizes (x ∷ []) t in
       record { figures_wide = omega (arith, sizes.0, wide.figures_wide); blanks_wide = omega (arith, sizes.1, wide.blanks_wide) }
-
-  pub output_below : (x i c : ℕ) (w : SelectedWay) → InForceBy rows x w → Output w i c → c < n
-  output_below x i c w by out = let there = (fit x w by).cells_there i out.placed in omega (arith, out.names)
 
   -- At an output of the first rule there stands, behind all turns, what its way made of the table before them.
   module _ (x : ℕ) (xs : List ℕ) (t : Table F) (wide : Wide t) (calm : Undisturbed rows x xs) (w : SelectedWay) (by : InForceBy rows x w) where
@@ -80,8 +78,9 @@ module _ {F : Type 0} (m : Calc F) (n : ℕ) (rows : List (Option SelectedWay)) 
 
     pub first_at : (i c : ℕ) → Output w i c → at after c ≡ landed (made m w (get_or ps x m.start) t i) (at t c)
     first_at i c out =
+        let lt = output_below m n rows fit x i c w by out in
         turns_other xs (worked_out m w (get_or ps x m.start) t) c (calm w by true i c out)
-        ∙ worked_at m n w (fit x w by) (get_or ps x m.start) t i c out (omega (arith, output_below x i c w by out, wide.figures_wide)) (omega (arith, output_below x i c w by out, wide.blanks_wide))
+        ∙ worked_at m n w (fit x w by) (get_or ps x m.start) t i c out (omega (arith, wide.figures_wide)) (omega (arith, wide.blanks_wide))
 
     -- Its inputs are as they were, so that its way makes the same of the table behind all turns.
     first_made : (i : ℕ) → made m w (get_or ps x m.start) t i ≡ made m w (get_or ps x m.start) after i
@@ -91,7 +90,7 @@ module _ {F : Type 0} (m : Calc F) (n : ℕ) (rows : List (Option SelectedWay)) 
 
     first_shows : (i c : ℕ) → Output w i c → shows m.start after c ≡ made m w (get_or ps x m.start) after i
     first_shows i c out =
-        ap (λ (e : Entry F). shown_by e.cause e.shown) (first_at i c out) ∙ shown_landed (made m w (get_or ps x m.start) t i) (at t c) ∙ first_made i
+        let lands = first_at i c out in let shown = shown_landed (made m w (get_or ps x m.start) t i) (at t c) in let same = first_made i in grind arith
 
   -- Behind all turns, a cell that one of the rules gives shows what its way makes of the table as it then is.
   pub turns_planned : (xs : List ℕ) (t : Table F) → Wide t → InOrder rows xs → (x i c : ℕ) (w : SelectedWay) → is_on x xs ≡ true → InForceBy rows x w → Output w i c → shows m.start (turns m rows ps xs t) c ≡ made m w (get_or ps x m.start) (turns m rows ps xs t) i
@@ -121,5 +120,7 @@ module _ {F : Type 0} (m : Calc F) (n : ℕ) (rows : List (Option SelectedWay)) 
     where
       given : (w : SelectedWay) → InForceBy rows x w → (i : ℕ) → Output w i c → (at (turns m rows ps (x ∷ xs) t) c).shown ≡ (at t c).shown
       given w by i out =
-          let lands : at (turns m rows ps (x ∷ xs) t) c ≡ landed (made m w (get_or ps x m.start) t i) (at t c) = ap (λ (s : Table F). at s c) (first_turn x xs t wide order.0 w by) ∙ first_at x xs t wide order.0 w by i c out in
-          ap (λ (e : Entry F). e.shown) lands ∙ blank_landed (made m w (get_or ps x m.start) t i) (at t c) (ap (λ (e : Entry F). caused e.cause) (sym lands) ∙ h)
+          let turned = first_turn x xs t wide order.0 w by in
+          let lands = first_at x xs t wide order.0 w by i c out in
+          let kept = blank_landed (made m w (get_or ps x m.start) t i) (at t c) in
+          grind arith

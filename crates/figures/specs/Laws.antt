@@ -1,5 +1,5 @@
 -- What an update over a plan leaves, for every calculator.
-use Rattle.std.specs.Prelude.{◌≡◌, ℕ, ◌<◌, ◌≤◌, true, cond, List, length, Some, None, Option, slice_index, slice_index_or}
+use Rattle.std.specs.Prelude.{◌≡◌, ℕ, ◌<◌, ◌≤◌, true, if◌then◌else◌, List, length, Some, None, Option, slice_index, slice_index_or}
 use Rattle.meaning.specs.Lists.{is_on}
 use Rattle.meaning.specs.Masks.{bit}
 use Rattle.meaning.specs.Calc.{Answer, gives, faults, Calc, CalcLaws, input_figures}
@@ -45,12 +45,12 @@ shows start t c = shown_by (cause_at t.blanks c) (slice_index_or t.figures c sta
 
 abbrev pub answered : {F : Type 0} → Answer F → ℕ → Shown F
 answered (gives figure_at) i = figure (figure_at i)
-answered (faults n) i = blank (Faulted n)
+answered (faults n) i = blank (Faulted (record { number = n }))
 
 -- What a way makes of the table for its output at place i: blank with cause 3 if an input is blank; otherwise what the calculator
 -- answers on P and the inputs' figures, or blank with its fault.
 abbrev pub made : {F : Type 0} → Calc F → SelectedWay → F → Table F → ℕ → Shown F
-made m w p t i = cond (has_blank_input w t.blanks) (blank InputBlank) (answered (m.answer w.kind w.way p (input_figures m w.kind w.way t.figures (places_of w))) i)
+made m w p t i = if has_blank_input w t.blanks then blank InputBlank else answered (m.answer w.kind w.way p (input_figures m w.kind w.way t.figures (places_of w))) i
 
 -- No rule in force gives the cell.
 abbrev pub Free : List (Option SelectedWay) → ℕ → Type 0

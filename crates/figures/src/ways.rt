@@ -2,7 +2,7 @@
 
 ghost use Rattle.std.specs.Prelude.{◌≡◌, ◌≤◌, length};
 ghost use Rattle.meaning.specs.Masks.{bit};
-ghost use Rattle.figures.specs.Ways.{places_of, cell_bit, with_cell as with_cell_of, flow_of, flow_by, flows_of};
+ghost use Rattle.figures.specs.Ways.{places_of, cell_bit, with_cell, flow_of, flows_of};
 
 pub use meaning::PLACES;
 use meaning::masks::has_bit;
@@ -11,6 +11,7 @@ use planning::flows::Flow;
 
 /// The selected way of a rule in force: the kind, the way's number, the cells that the places name (the first `count`),
 /// and the mask of the outputs, in which bit i stands for place i.
+// Rows are plain `Copy` data of a fixed size, so the cells stand in an array beside their number.
 #[derive(Clone, Copy)]
 pub struct SelectedWay {
     pub kind: u8,
@@ -40,15 +41,12 @@ impl SelectedWay {
     pub fn flow(&self) -> Flow
         ensures { result ≡ flow_of self.now }
     {
-        let places = self.places();
         let mut flow = Flow {
             inputs: 0,
             outputs: 0,
         };
-        let mut i = places.len();
-        while i > 0 {
-            i -= 1;
-            flow = with_cell(flow, self.is_output(i as u8), places[i]);
+        for (place, cell) in (0..u8::MAX).zip(self.places()) {
+            flow = with_cell(flow, self.is_output(place), *cell);
         }
         flow
     }
@@ -63,28 +61,18 @@ fn cell_bit(cell: u8) -> u64
 
 /// One cell more, given or read.
 fn with_cell(flow: Flow, is_output: bool, cell: u8) -> Flow
-    ensures { result ≡ with_cell_of is_output cell flow }
+    ensures { result ≡ with_cell is_output cell flow }
 {
     if is_output {
         Flow {
-            inputs: flow.inputs,
             outputs: cell_bit(cell) | flow.outputs,
+            ..flow
         }
     } else {
         Flow {
             inputs: cell_bit(cell) | flow.inputs,
-            outputs: flow.outputs,
+            ..flow
         }
-    }
-}
-
-/// What planning sees of a rule, if it is in force.
-fn flow_by(row: Option<SelectedWay>) -> Option<Flow>
-    ensures { result ≡ flow_by row }
-{
-    match row {
-        Some(way) => Some(way.flow()),
-        None => None,
     }
 }
 
@@ -92,9 +80,5 @@ fn flow_by(row: Option<SelectedWay>) -> Option<Flow>
 pub fn flows(rows: &[Option<SelectedWay>; RULES]) -> [Option<Flow>; RULES]
     ensures { result ≡ flows_of rows.now }
 {
-    let mut flows = [None; RULES];
-    for x in 0..RULES {
-        flows[x] = flow_by(rows[x]);
-    }
-    flows
+    rows.map(|row| row.map(|way| way.flow()))
 }

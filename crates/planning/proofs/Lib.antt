@@ -1,9 +1,9 @@
 pub mod Members
+pub mod Numbers
 pub mod LeftOver
 pub mod Supplying
 pub mod InOrder
 pub mod Upstream
 pub mod Lawful
-pub mod Passing
 pub mod Held
 pub mod Turns

@@ -1,5 +1,6 @@
 -- The rules in force by the cells that they read and give, and which rule feeds which.
-use Rattle.std.specs.Prelude.{◌≡◌, ℕ, Bool, true, false, List, Some, None, Option, slice_index_or}
+use Rattle.std.specs.Prelude.{◌≡◌, ℕ, Bool, true, List, None, Option, is_some, slice_index_or}
+use Rattle.std.specs.Option.{option_map_or}
 use Rattle.meaning.specs.Masks.{bit}
 use Rattle.planning.specs.declared.flows.Flow.{Flow}
 
@@ -7,20 +8,17 @@ use Rattle.planning.specs.declared.flows.Flow.{Flow}
 abbrev pub flow_at : List (Option Flow) → ℕ → Option Flow
 flow_at rows x = slice_index_or rows x None
 
+-- The cells that it reads; a rule that is not in force reads none.
 abbrev pub inputs_by : Option Flow → ℕ
-inputs_by (Some flow) = flow.inputs
-inputs_by None = 0
+inputs_by row = option_map_or (λ flow. flow.inputs) row 0
 
+-- The cells that it gives; a rule that is not in force gives none.
 abbrev pub outputs_by : Option Flow → ℕ
-outputs_by (Some flow) = flow.outputs
-outputs_by None = 0
+outputs_by row = option_map_or (λ flow. flow.outputs) row 0
 
-abbrev pub flows : Option Flow → Bool
-flows (Some flow) = true
-flows None = false
-
+-- A rule is in force exactly if it has a flow.
 abbrev pub rule_in_force : List (Option Flow) → ℕ → Bool
-rule_in_force rows x = flows (flow_at rows x)
+rule_in_force rows x = is_some (flow_at rows x)
 
 -- Rule x gives cell c.
 abbrev pub Gives : List (Option Flow) → ℕ → ℕ → Type 0

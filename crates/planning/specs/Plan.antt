@@ -1,5 +1,6 @@
 -- The plan of the rules in force, and the rules that are held.
-use Rattle.std.specs.Prelude.{◌≡◌, ℕ, zero, suc, ◌<◌, Bool, true, false, cond, not, ◌&&◌, List, [], ◌∷◌, ◌++◌, Option}
+use Rattle.std.specs.Prelude.{◌≡◌, ℕ, ◌<◌, Bool, true, false, not, ◌&&◌, List, [], ◌∷◌, ◌++◌, Option, filter}
+use Rattle.std.specs.List.{range_with_len}
 use Rattle.meaning.specs.Lists.{is_on}
 use Rattle.planning.specs.declared.flows.Flow.{Flow}
 use Rattle.planning.specs.Flows.{rule_in_force, Feeds}
@@ -21,10 +22,9 @@ pub data GoesOn (rows : List (Option Flow)) : List ℕ → List ℕ → Type 0 w
 abbrev pub IsPlan : List (Option Flow) → List ℕ → Type 0
 IsPlan rows plan = GoesOn rows [] plan
 
--- Of the n numbers from x on, those that pass a test, by rising number.
-unfoldable pub passing : (ℕ → Bool) → ℕ → ℕ → List ℕ
-passing test x zero = []
-passing test x (suc n) = cond (test x) (x ∷ passing test (suc x) n) (passing test (suc x) n)
+-- The rules that pass a test, by rising number.
+unfoldable pub rules_where : (ℕ → Bool) → List ℕ
+rules_where test = filter test (range_with_len 0 64)
 
 -- A rule in force that the plan leaves over is held.
 abbrev pub is_held : List (Option Flow) → List ℕ → ℕ → Bool
@@ -32,4 +32,4 @@ is_held rows plan x = rule_in_force rows x && not (is_on x plan)
 
 -- The held rules, by rising number.
 abbrev pub held_rules : List (Option Flow) → List ℕ → List ℕ
-held_rules rows plan = passing (is_held rows plan) 0 64
+held_rules rows plan = rules_where (is_held rows plan)

@@ -1,23 +1,40 @@
 //! A list of rule numbers, at most sixty-four.
 
-ghost use Rattle.std.specs.Prelude.{◌≡◌, ◌+◌, ◌<◌, ◌≤◌, [], ◌∷◌, ◌++◌, length, take};
+ghost use Rattle.std.specs.Prelude.{◌≡◌, ◌<◌, ◌≤◌, [], ◌∷◌, ◌++◌, length};
 
 use meaning::RULES;
+use std::marker::Model;
 
-/// The first `count` of the numbers.
+/// At most sixty-four rule numbers: the first `count` of the numbers, with zeros behind them.
+// An array and a count, since a plan is plain Copy data of a fixed size and takes no memory; arrayvec's ArrayVec is not Copy.
 #[derive(Clone, Copy)]
 pub struct RuleList {
-    pub(crate) numbers: [u8; RULES],
-    pub(crate) count: usize,
-    ghost sized: { length numbers ≡ 64 },
-    ghost within: { count ≤ 64 },
+    numbers: [u8; RULES],
+    count: usize,
+}
+
+impl Model for RuleList {
+    ghost use Rattle.std.specs.Prelude.{ℕ, List, length, take};
+    ghost use Rattle.planning.specs.RuleLists.{IsPadded, padded, length-padded, padded_again};
+
+    ghost Value = { List ℕ };
+
+    ghost view = { λ list. take list.count list.numbers };
+
+    ghost invariant = { λ list. IsPadded list.numbers list.count };
+
+    ghost inverse = { λ xs. record { numbers = padded xs; count = length xs } };
+
+    ghost inverse_ok = { λ list is i. record {
+      numbers = padded_again list.numbers list.count is i;
+      count = length-padded list.numbers list.count is i;
+    } };
 }
 
 impl RuleList {
     /// A list without numbers.
-    pub(crate) fn empty() -> RuleList
-        ensures value { take result.count result.numbers ≡ [] }
-        ensures count { result.count ≡ 0 }
+    pub(crate) fn new() -> RuleList
+        ensures { result ≡ [] }
     {
         RuleList {
             numbers: [0; RULES],
@@ -25,23 +42,19 @@ impl RuleList {
         }
     }
 
-    /// The list with one number more, at its end.
-    pub(crate) fn with(self, x: u8) -> RuleList
-        requires { self.count < 64 }
-        ensures value { take result.count result.numbers ≡ take self.count self.numbers ++ x ∷ [] }
-        ensures count { result.count ≡ self.count + 1 }
+    /// Puts one number more on the list, at its end.
+    pub(crate) fn push(&mut self, x: u8)
+        requires { length self.old < 64 }
+        ensures { self.new ≡ self.old ++ x ∷ [] }
     {
-        let mut numbers = self.numbers;
-        numbers[self.count] = x;
-        RuleList {
-            numbers,
-            count: self.count + 1,
-        }
+        self.numbers[self.count] = x;
+        self.count += 1;
     }
 
     /// The numbers, in their order.
     pub fn as_slice(&self) -> &[u8]
-        ensures { result.now ≡ take self.now.count self.now.numbers }
+        ensures value { result.now ≡ self.now }
+        ensures few { length result.now ≤ 64 }
     {
         &self.numbers[0..self.count]
     }

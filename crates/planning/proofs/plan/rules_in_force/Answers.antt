@@ -1,34 +1,27 @@
-use Rattle.std.proofs.Common.{◌≡◌, ◌+◌, ◌-◌, ◌≤◌, ◌++◌, take, sym, ap, ◌∙◌, subst, arith}
-use Rattle.planning.specs.declared.rule_list.RuleList.{RuleList}
-use Rattle.planning.specs.Flows.{flow_at, rule_in_force}
-use Rattle.planning.specs.Plan.{passing}
-use Rattle.planning.proofs.Passing.{passing_on, passing_over, passing_end}
-use Rattle.planning.proofs.LeftOver.{some_flows}
+use Rattle.std.proofs.Common.{rules, tests, length, map-id, sym, ap, ◌∙◌, arith}
+use Rattle.std.proofs.lemmas.Iterator.{YieldsList-from_range}
+use Rattle.std.proofs.lemmas.Iterator.Consumers.{YieldsList-at, YieldsList-from_filter, YieldsList-end, YieldsList-turn}
+use Rattle.planning.specs.Flows.{rule_in_force}
+use Rattle.planning.specs.Plan.{rules_where}
+use Rattle.planning.proofs.Numbers.{rules_few}
 use Rattle.planning.proofs.plan.rules_in_force.Goals as goal
-use Rattle.planning.proofs.plan.rules_in_force.Goals.{then-is_some, else-is_some}
 
--- The invariant at the end of a turn, of the list that is left then.
-abbrev Kept : (c : goal.Joined-is_some) → RuleList → Type 0
-Kept c r =
-    let test = rule_in_force c.args.rows.now in
-    let x = c.loop-x.x in
-    (take r.count r.numbers ++ passing test (x + 1) (64 - (x + 1)) ≡ passing test 0 64) × (r.count ≤ x + 1)
+-- The loop has seen fewer rules than there are in force.
+pub push-requires : goal.push-requires
+unfolding rules_where
+push-requires c =
+    let turn = YieldsList-turn
+    (YieldsList-at c.into_iter-x-iterator.ensures.into_iter_gives
+    (YieldsList-from_filter _ (rule_in_force c.args.rows.now) (YieldsList-from_range 0 64 64 (cc) (cc)) c.filter-x-items.ensures.closure (λ x b q k. search (rules, tests))))
+    c.loop-x.yielded _ c.loop-x.yielded_by _ _ c.in-Some.x c.in-Some.is c.next.ensures.steps in
+    omega (arith, ap length c.loop-x.invariant.0, turn.0, rules_few (rule_in_force c.args.rows.now))
 
-pub loop-x-preserved : goal.loop-x-preserved
-loop-x-preserved c =
-    let rows = c.args.rows.now in
-    let test = rule_in_force rows in
-    let x = c.loop-x.x in
-    let so_far = take c.loop-x.list.count c.loop-x.list.numbers in
-    let on = passing_on test so_far (passing test 0 64) x 64 c.loop-x.invariant.0 c.loop-x-test.true in
-    let over = passing_over test so_far (passing test 0 64) x 64 c.loop-x.invariant.0 c.loop-x-test.true in
-    elim c.if-is_some.branch [
-      | then-is_some w ↦ subst (Kept c) (sym w.list-is) (ap (λ xs. xs ++ passing test (x + 1) (64 - (x + 1))) w.with-list.ensures.value ∙ on (sym (w.if-is_some.ensures ∙ some_flows (flow_at rows x))), omega (arith, c.loop-x.invariant.1, w.with-list.ensures.count))
-      | else-is_some w ↦ subst (Kept c) (sym w.list-is) (over (sym (w.if-is_some.ensures ∙ some_flows (flow_at rows x))), omega (arith, c.loop-x.invariant.1))
-    ]
-
+-- At its end it has seen all of them.
 pub returns : goal.returns
+unfolding rules_where
 returns c =
-    let rows = c.args.rows.now in
-    let list = c.loop-x.list in
-    passing_end (rule_in_force rows) (take list.count list.numbers) (passing (rule_in_force rows) 0 64) c.loop-x.x 64 c.loop-x.invariant.0 c.loop-x-test.false
+    let end = YieldsList-end
+    (YieldsList-at c.into_iter-x-iterator.ensures.into_iter_gives
+    (YieldsList-from_filter _ (rule_in_force c.args.rows.now) (YieldsList-from_range 0 64 64 (cc) (cc)) c.filter-x-items.ensures.closure (λ x b q k. search (rules, tests))))
+    c.loop-x.yielded _ c.loop-x.yielded_by _ _ c.in-None.is c.next.ensures.steps in
+    c.loop-x.invariant.0 ∙ sym (map-id c.loop-x.yielded) ∙ end.0

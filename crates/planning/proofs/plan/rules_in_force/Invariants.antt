@@ -1,8 +1,6 @@
--- The list so far and the rules in force from x on are all of them, and no more than one for each number below x.
-use Rattle.std.proofs.Common.{◌≡◌, ◌-◌, ◌≤◌, ◌++◌, take}
-use Rattle.planning.specs.Flows.{rule_in_force}
-use Rattle.planning.specs.Plan.{passing}
+-- The list holds the rules that were found so far.
+use Rattle.std.proofs.Common.{◌≡◌}
 use Rattle.planning.proofs.plan.rules_in_force.Given as goal
 
 abbrev pub invariant-loop-x : goal.invariant-loop-x
-invariant-loop-x l = (take l.list.count l.list.numbers ++ passing (rule_in_force l.rows) l.x (64 - l.x) ≡ passing (rule_in_force l.rows) 0 64) × (l.list.count ≤ l.x)
+invariant-loop-x l = (l.list ≡ l.yielded) × (goal.iterator-loop-x).can_next l.x-iterator × (goal.iterator-loop-x).is_finite l.x-iterator

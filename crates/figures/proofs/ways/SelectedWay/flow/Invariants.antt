@@ -1,10 +1,10 @@
--- The flow is that of the places from i on.
-use Rattle.std.proofs.Common.{◌≡◌, ◌≤◌, length, drop}
-use Rattle.figures.specs.Ways.{flow_from}
+-- The flow with the places that are left is that of the way.
+use Rattle.std.proofs.Common.{◌≡◌, ◌≤◌, ◌+◌, length}
+use Rattle.figures.specs.Ways.{flow_from, flow_of}
 use Rattle.figures.proofs.ways.SelectedWay.flow.Given as goal
 
-abbrev pub invariant-loop-i : goal.invariant-loop-i
-invariant-loop-i l = (l.flow ≡ flow_from l.self.outputs l.i (drop l.i l.places)) × (l.i ≤ length l.places)
-
-abbrev pub decreases-loop-i : goal.decreases-loop-i
-decreases-loop-i l = l.i
+abbrev pub invariant-loop-place : goal.invariant-loop-place
+invariant-loop-place l =
+    (flow_from l.self.outputs l.place-iterator.a.start l.place-iterator.b.rest.now l.flow ≡ flow_of l.self)
+    × (l.place-iterator.a.end ≡ 255)
+    × (l.place-iterator.a.start + length l.place-iterator.b.rest.now ≤ 255)

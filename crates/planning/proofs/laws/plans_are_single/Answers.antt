@@ -1,5 +1,0 @@
-use Rattle.planning.proofs.Lawful.{plans_are_single}
-use Rattle.planning.proofs.laws.plans_are_single.Goals as goal
-
-pub returns : goal.returns
-returns c = plans_are_single

@@ -2,6 +2,7 @@
 
 #![tactic(auto)]
 
+pub mod making;
 pub mod record;
 pub mod refusal;
 pub mod row;

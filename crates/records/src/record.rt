@@ -1,13 +1,16 @@
 //! A rule record as the caller hands it.
 
-ghost use Rattle.std.specs.Prelude.{◌≡◌, length, min};
-ghost use Rattle.records.specs.Records.{padded, recorded};
+ghost use Rattle.std.specs.Prelude.{◌≡◌, ◌≤◌, length, min};
+ghost use Rattle.records.specs.Records.{padded, recorded, places_in, ways_in};
 
-use meaning::{PLACES, WAYS, read_or};
+use meaning::{PLACES, WAYS, front, read_or};
+use std::array;
 
 /// A rule record: the rule's number, its kind, the cells that its places name (the first `place_count`), the ways that it
 /// lists, in their order (the first `way_count`), its strength and its parameter. A count over 6, or over 4, says that
 /// there were more than any kind has.
+// Counts beside arrays: a record is plain Copy data of a fixed size, and what a count says beyond it is refused. The kind is a
+// byte, since one that the calculator does not have is refused too.
 #[derive(Clone, Copy)]
 pub struct Record<S, F> {
     pub number: u8,
@@ -44,17 +47,29 @@ impl<S: Copy, F: Copy> Record<S, F> {
             parameter,
         }
     }
+
+    /// The cells that the places name, in place order.
+    pub fn places(&self) -> &[u8]
+        ensures value { result.now ≡ places_in self.now }
+        ensures few { length result.now ≤ 6 }
+    {
+        front(&self.places, self.place_count)
+    }
+
+    /// The ways that the record lists, in their order.
+    pub fn ways(&self) -> &[u8]
+        ensures value { result.now ≡ ways_in self.now }
+        ensures few { length result.now ≤ 4 }
+    {
+        front(&self.ways, self.way_count)
+    }
 }
 
 /// The first N numbers of a list, filled up with 0 where there are fewer.
 fn kept<const N: usize>(items: &[u8]) -> [u8; N]
     ensures { result ≡ padded N 0 items.now }
 {
-    let mut front = [0; N];
-    for i in 0..N {
-        front[i] = read_or(items, i, 0);
-    }
-    front
+    array::from_fn(|i| read_or(items, i, 0))
 }
 
 /// The length of a list, at most 255.

@@ -1,5 +1,5 @@
 -- Which rules stand, with which records, strengths and parameters: read from the accepted calls of a history.
-use Rattle.std.specs.Prelude.{◌≡◌, ℕ, Bool, true, false, cond, List, [], ◌∷◌, map, Some, None, Option, ◌==◌}
+use Rattle.std.specs.Prelude.{◌≡◌, ℕ, Bool, true, false, List, [], ◌∷◌, map, Some, None, Option, ◌==◌, if◌then◌else◌}
 use Rattle.std.specs.List.{range_with_len}
 use Rattle.meaning.specs.Ranks.{Ranks}
 use Rattle.meaning.specs.Calc.{Calc}
@@ -43,7 +43,7 @@ with_parameter p None = None
 
 -- One entry written.
 abbrev pub noted : {S F : Type 0} → ℕ → Option (Record S F) → Standing S F → Standing S F
-noted n entry standing x = cond (x == n) entry (standing x)
+noted n entry standing x = if x == n then entry else standing x
 
 -- What an accepted call makes of the standing rules.
 abbrev pub call_makes : {S F : Type 0} → Call S F → Standing S F → Standing S F
@@ -54,7 +54,7 @@ call_makes Freeze standing = standing
 call_makes Release standing = standing
 
 abbrev pub entry_makes : {S F : Type 0} → Entry S F → Standing S F → Standing S F
-entry_makes e standing x = cond (accepted e.answer) (call_makes e.call standing x) (standing x)
+entry_makes e standing x = if accepted e.answer then call_makes e.call standing x else standing x
 
 -- The standing rules behind a history, from those before it.
 abbrev pub standing_from : {S F : Type 0} → List (Entry S F) → Standing S F → Standing S F

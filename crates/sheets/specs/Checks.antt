@@ -1,9 +1,8 @@
 -- The checks of each call, in rising order of their numbers.
-use Rattle.std.specs.Prelude.{ℕ, suc, Bool, true, false, cond, not, ◌&&◌, ◌||◌, List, [], ◌∷◌, length, take, Some, None, Option, nat_le, nat_lt, slice_index_or}
+use Rattle.std.specs.Prelude.{ℕ, suc, Bool, true, false, not, ◌&&◌, ◌||◌, List, [], ◌∷◌, length, take, Some, None, Option, nat_le, nat_lt, slice_get, slice_index_or, if◌then◌else◌}
 use Rattle.std.specs.List.{list_all}
 use Rattle.meaning.specs.Ranks.{Ranks}
 use Rattle.meaning.specs.Calc.{Calc}
-use Rattle.ranks.specs.RankOrder.{strength_at}
 use Rattle.placing.specs.declared.rules.State.{State}
 use Rattle.placing.specs.Board.{state_of, is_standing}
 use Rattle.records.specs.declared.record.Record.{Record}
@@ -31,14 +30,14 @@ known_strength r None = false
 
 -- The strength table has 64 entries, and those of the standing rules are known.
 abbrev pub strengths_fit : {S : Type 0} → Ranks S → List State → List S → Bool
-strengths_fit r states strengths = nat_le 64 (length strengths) && standing_pass (λ x. known_strength r (strength_at strengths x)) 0 states
+strengths_fit r states strengths = nat_le 64 (length strengths) && standing_pass (λ x. known_strength r (slice_get strengths x)) 0 states
 
 abbrev pub tables_fit : {S F : Type 0} → Ranks S → Calc F → Contents → Tables S F → Bool
 tables_fit r m s t = figures_fit m s.cells t.figures && (parameters_fit m s.states t.parameters && strengths_fit r s.states t.strengths)
 
 -- A refusal where a test fails, otherwise what the later checks say.
 abbrev pub unless : Bool → Refusal → Option Refusal → Option Refusal
-unless passed why later = cond passed later (Some why)
+unless passed why later = if passed then later else Some why
 
 abbrev pub open_refusal : {F : Type 0} → ℕ → List F → Option Refusal
 open_refusal cells figures = unless (nat_le 1 cells && nat_le cells 64) CellCount (unless (nat_le cells (length figures)) BadTables None)

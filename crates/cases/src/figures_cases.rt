@@ -1,13 +1,14 @@
 //! Figures brought up to date: faults and blanks, free cells, short lists and tables, at both calculators.
 
 use calculators::cards;
-use calculators::cards::{CardFigure, Cards, PACK};
-use calculators::quantities::{ENTRY, LIMIT, PRODUCT, Quantities, SUM};
+use calculators::cards::{CardFigure, Cards};
+use calculators::quantities::{Kind, Quantities};
 use figures::blanks::{Blanks, Cause};
 use figures::update::update;
 use figures::ways::{PLACES, SelectedWay, flows};
-use meaning::{Calculator, RULES, read_or};
+use meaning::{Calculator, Fault, RULES, read_or};
 use planning::plan::Plan;
+use std::array;
 use std::process::Abort;
 
 /// Why a cell is blank whose giver is held.
@@ -17,37 +18,22 @@ const HELD: Option<Cause> = Some(Cause::GiverHeld);
 const BEHIND: Option<Cause> = Some(Cause::InputBlank);
 
 /// Why a cell is blank whose giver faulted.
-fn faulted(fault: u8) -> Option<Cause> {
-    Some(Cause::Faulted(fault))
+fn faulted(number: u8) -> Option<Cause> {
+    Some(Cause::Faulted(Fault { number }))
 }
 
-/// A way on the cells that its places name; its outputs are those that the calculator says.
-fn by<C: Calculator>(calculator: &C, kind: u8, way: u8, places: &[u8]) -> SelectedWay {
-    let mut cells = [0; PLACES];
-    let mut outputs = 0;
-    for place in 0..6u8 {
-        cells[usize::from(place)] = read_or(places, usize::from(place), 0);
-        if calculator.is_output(kind, way, place) {
-            outputs |= 1 << place;
-        }
-    }
+/// A way of a kind on the cells that its places name; its outputs are those that the calculator says.
+fn by<C: Calculator, K: Into<u8>>(calculator: &C, kind: K, way: u8, places: &[u8]) -> SelectedWay {
+    let kind = kind.into();
     SelectedWay {
         kind,
         way,
-        cells,
+        cells: array::from_fn(|place| read_or(places, place, 0)),
         count: places.len().min(PLACES) as u8,
-        outputs,
+        outputs: (0..6u8)
+            .filter(|place| calculator.is_output(kind, way, *place))
+            .fold(0, |outputs, place| outputs | 1 << place),
     }
-}
-
-/// A way of the quantity calculator.
-fn quantity(kind: u8, way: u8, places: &[u8]) -> SelectedWay {
-    by(&Quantities, kind, way, places)
-}
-
-/// A way of the card calculator.
-fn card(kind: u8, way: u8, places: &[u8]) -> SelectedWay {
-    by(&Cards, kind, way, places)
 }
 
 /// Plans the rules, numbered from 0, and brings the figures up to date.
@@ -57,10 +43,7 @@ fn work_out<C: Calculator>(
     parameters: &[C::Figure],
     figures: &mut [C::Figure],
 ) -> Blanks {
-    let mut rows = [None; RULES];
-    for r in 0..RULES {
-        rows[r] = ways.get(r).copied();
-    }
+    let rows: [Option<SelectedWay>; RULES] = array::from_fn(|r| ways.get(r).copied());
     let plan = Plan::new(&flows(&rows));
     update(calculator, &rows, &plan, parameters, figures)
 }
@@ -75,12 +58,22 @@ fn are_blank(rt: &impl Abort, blanks: &Blanks, due: &[Option<Cause>]) {
 // Each way gives cell 2.
 #[test]
 fn a_fault_leaves_the_old_entry(rt: HostRuntime) {
-    let sum = quantity(SUM, 0, &[0, 1, 2]);
+    let sum = by(&Quantities, Kind::Sum, 0, &[0, 1, 2]);
     let unknown = SelectedWay { kind: 9, ..sum };
     let cases = [
         (sum, 0, [999_999_999, 2, 7], 1),
-        (quantity(PRODUCT, 1, &[2, 0, 1]), 1, [0, 5, 7], 2),
-        (quantity(PRODUCT, 0, &[0, 1, 2]), 0, [3, 4, 7], 3),
+        (
+            by(&Quantities, Kind::Product, 1, &[2, 0, 1]),
+            1,
+            [0, 5, 7],
+            2,
+        ),
+        (
+            by(&Quantities, Kind::Product, 0, &[0, 1, 2]),
+            0,
+            [3, 4, 7],
+            3,
+        ),
         (unknown, 0, [3, 4, 7], 255),
     ];
     for (way, p, before, fault) in cases {
@@ -95,11 +88,11 @@ fn a_fault_leaves_the_old_entry(rt: HostRuntime) {
 #[test]
 fn a_blank_spreads(rt: HostRuntime) {
     let ways = [
-        quantity(PRODUCT, 0, &[0, 1, 2]),
-        quantity(SUM, 0, &[2, 0, 3]),
-        quantity(SUM, 2, &[0, 4, 3]),
-        quantity(LIMIT, 0, &[4, 5]),
-        quantity(SUM, 0, &[0, 1, 6]),
+        by(&Quantities, Kind::Product, 0, &[0, 1, 2]),
+        by(&Quantities, Kind::Sum, 0, &[2, 0, 3]),
+        by(&Quantities, Kind::Sum, 2, &[0, 4, 3]),
+        by(&Quantities, Kind::Limit, 0, &[4, 5]),
+        by(&Quantities, Kind::Sum, 0, &[0, 1, 6]),
     ];
     let mut figures = [1, 2, 3, 4, 5, 6, 7];
     let blanks = work_out(&Quantities, &ways, &[0, 0, 0, 0, 9], &mut figures);
@@ -115,9 +108,9 @@ fn a_blank_spreads(rt: HostRuntime) {
 #[test]
 fn held_rules_leave_blanks(rt: HostRuntime) {
     let ways = [
-        quantity(SUM, 0, &[0, 1, 2]),
-        quantity(SUM, 0, &[2, 3, 1]),
-        quantity(ENTRY, 0, &[0]),
+        by(&Quantities, Kind::Sum, 0, &[0, 1, 2]),
+        by(&Quantities, Kind::Sum, 0, &[2, 3, 1]),
+        by(&Quantities, Kind::Entry, 0, &[0]),
     ];
     let mut figures = [5, 6, 7, 8];
     let blanks = work_out(&Quantities, &ways, &[0, 0, 9], &mut figures);
@@ -129,8 +122,8 @@ fn held_rules_leave_blanks(rt: HostRuntime) {
 #[test]
 fn a_cell_without_a_giver_keeps_its_entry(rt: HostRuntime) {
     let ways = [
-        quantity(PRODUCT, 0, &[0, 0, 1]),
-        quantity(SUM, 0, &[0, 0, 2]),
+        by(&Quantities, Kind::Product, 0, &[0, 0, 1]),
+        by(&Quantities, Kind::Sum, 0, &[0, 0, 2]),
     ];
     let mut figures = [1, 77, 88, 99];
     let blanks = work_out(&Quantities, &ways, &[0, 1], &mut figures);
@@ -144,9 +137,9 @@ fn a_cell_without_a_giver_keeps_its_entry(rt: HostRuntime) {
 #[test]
 fn a_missing_parameter_is_the_start(rt: HostRuntime) {
     let ways = [
-        quantity(SUM, 0, &[0, 0, 1]),
-        quantity(SUM, 0, &[0, 0, 2]),
-        quantity(PRODUCT, 0, &[0, 0, 3]),
+        by(&Quantities, Kind::Sum, 0, &[0, 0, 1]),
+        by(&Quantities, Kind::Sum, 0, &[0, 0, 2]),
+        by(&Quantities, Kind::Product, 0, &[0, 0, 3]),
     ];
     let mut figures = [4, 0, 0, 9];
     let blanks = work_out(&Quantities, &ways, &[1], &mut figures);
@@ -157,7 +150,10 @@ fn a_missing_parameter_is_the_start(rt: HostRuntime) {
 // The table has two cells: rule 0 gives a third, and rule 1 reads it, as the start.
 #[test]
 fn a_short_table_is_safe(rt: HostRuntime) {
-    let ways = [quantity(SUM, 0, &[0, 0, 2]), quantity(SUM, 0, &[2, 0, 1])];
+    let ways = [
+        by(&Quantities, Kind::Sum, 0, &[0, 0, 2]),
+        by(&Quantities, Kind::Sum, 0, &[2, 0, 1]),
+    ];
     let mut figures = [4, 5];
     let blanks = work_out(&Quantities, &ways, &[0, 10], &mut figures);
     assert_eq!(rt; figures, [4, 14]);
@@ -170,9 +166,9 @@ fn a_short_table_is_safe(rt: HostRuntime) {
 #[test]
 fn a_cell_from_64_on_is_safe(rt: HostRuntime) {
     let ways = [
-        quantity(SUM, 0, &[0, 0, 64]),
-        quantity(PRODUCT, 0, &[0, 0, 255]),
-        quantity(SUM, 0, &[64, 0, 1]),
+        by(&Quantities, Kind::Sum, 0, &[0, 0, 64]),
+        by(&Quantities, Kind::Product, 0, &[0, 0, 255]),
+        by(&Quantities, Kind::Sum, 0, &[64, 0, 1]),
     ];
     let mut figures = [4, 5];
     let blanks = work_out(&Quantities, &ways, &[0, 0, 10], &mut figures);
@@ -186,9 +182,9 @@ fn a_cell_from_64_on_is_safe(rt: HostRuntime) {
 #[test]
 fn a_card_is_unpacked_and_packed(rt: HostRuntime) {
     let ways = [
-        card(cards::ENTRY, 0, &[0]),
-        card(PACK, 0, &[0, 1, 2, 3]),
-        card(PACK, 1, &[4, 1, 2, 3]),
+        by(&Cards, cards::Kind::Entry, 0, &[0]),
+        by(&Cards, cards::Kind::Pack, 0, &[0, 1, 2, 3]),
+        by(&Cards, cards::Kind::Pack, 1, &[4, 1, 2, 3]),
     ];
     let entered = CardFigure::Card {
         furnish: 12,
@@ -207,7 +203,10 @@ fn a_card_is_unpacked_and_packed(rt: HostRuntime) {
 // Rule 0 finds a code where it needs a card; rule 1 is fed from it.
 #[test]
 fn a_code_for_a_card_faults(rt: HostRuntime) {
-    let ways = [card(PACK, 0, &[0, 1, 2, 3]), card(PACK, 1, &[4, 1, 2, 3])];
+    let ways = [
+        by(&Cards, cards::Kind::Pack, 0, &[0, 1, 2, 3]),
+        by(&Cards, cards::Kind::Pack, 1, &[4, 1, 2, 3]),
+    ];
     let before = [CardFigure::Code(8); 5];
     let mut figures = before;
     let blanks = work_out(&Cards, &ways, &[], &mut figures);

@@ -1,9 +1,11 @@
 //! Placing on small boards: the order of the pile, the method's own published examples, and refusals.
 
+use meaning::{read_or, write_at};
 use placing::board::{Added, Board, Refused};
 use placing::rules::{NO_WAY, RULES, Rule, State, Way};
-use rankings::{Classes, MEDIUM, REQUIRED, STRONG, WEAK};
+use rankings::{Class, Classes};
 use ranks::Ranks;
+use std::array;
 use std::process::Abort;
 
 /// A board with the strengths of its rules.
@@ -11,84 +13,63 @@ use std::process::Abort;
 struct Desk {
     board: Board,
     classes: [u8; RULES],
-    standing: u64,
 }
 
 /// The mask of one cell.
 fn bit(cell: u8) -> u64 {
-    if cell < 64 { 1 << cell } else { 0 }
+    1u64.checked_shl(u32::from(cell)).unwrap_or(0)
+}
+
+/// A way that gives some cells, in this order.
+fn giving(cells: &[u8]) -> Way {
+    Way {
+        number: 0,
+        outputs: array::from_fn(|i| read_or(cells, i, 0)),
+        count: cells.len().min(6) as u8,
+        mask: cells.iter().fold(0, |mask, cell| mask | bit(*cell)),
+    }
 }
 
 /// A way that gives one cell.
 fn one(cell: u8) -> Way {
-    Way {
-        number: 0,
-        outputs: [cell, 0, 0, 0, 0, 0],
-        count: 1,
-        mask: bit(cell),
+    giving(&[cell])
+}
+
+/// A rule that lists some ways, four at most.
+fn listing(ways: &[Way]) -> Rule {
+    Rule {
+        ways: array::from_fn(|i| read_or(ways, i, NO_WAY)),
+        count: ways.len().min(4) as u8,
     }
-}
-
-/// A way that gives two cells, in this order.
-fn two(first: u8, second: u8) -> Way {
-    Way {
-        number: 0,
-        outputs: [first, second, 0, 0, 0, 0],
-        count: 2,
-        mask: bit(first) | bit(second),
-    }
-}
-
-/// A rule of up to four ways, of which the first `count` are listed.
-fn rule(count: u8, ways: [Way; 4]) -> Rule {
-    Rule { ways, count }
-}
-
-fn only(way: Way) -> Rule {
-    rule(1, [way, NO_WAY, NO_WAY, NO_WAY])
-}
-
-fn either(first: Way, second: Way) -> Rule {
-    rule(2, [first, second, NO_WAY, NO_WAY])
-}
-
-fn among(first: Way, second: Way, third: Way) -> Rule {
-    rule(3, [first, second, third, NO_WAY])
 }
 
 impl Desk {
     fn new() -> Desk {
         Desk {
             board: Board::empty(),
-            classes: [WEAK; RULES],
-            standing: 0,
+            classes: [Class::Weak.into(); RULES],
         }
     }
 
-    fn ranks(&self) -> Ranks {
-        Ranks::new(&Classes, &self.classes, self.standing)
+    fn ranks(&self, standing: u64) -> Ranks {
+        Ranks::new(&Classes, &self.classes, standing)
     }
 
-    fn add(&mut self, r: u8, class: u8, rule: Rule) -> Result<Added, Refused> {
-        if usize::from(r) < RULES {
-            self.classes[usize::from(r)] = class;
-        }
-        self.standing |= bit(r);
-        let ranks = self.ranks();
+    fn add(&mut self, r: u8, class: Class, rule: Rule) -> Result<Added, Refused> {
+        write_at(&mut self.classes, usize::from(r), class.into());
+        let ranks = self.ranks(self.board.standing_with(r));
         self.board.add(&ranks, r, rule)
     }
 
     fn remove(&mut self, r: u8) -> Result<u8, Refused> {
-        let ranks = self.ranks();
+        let ranks = self.ranks(self.board.standing());
         self.board.remove(&ranks, r)
     }
 
     /// Whether the rules from the first on are in force by these ways.
     fn is_by(&self, rt: &impl Abort, first: u8, ways: &[u8]) {
-        let mut r = first;
-        for way in ways {
+        for (r, way) in (first..64).zip(ways) {
             assert_eq!(rt; self.board.state(r), State::InForce(*way));
-            r = r.saturating_add(1);
         }
     }
 }
@@ -109,9 +90,18 @@ const WAITS: Result<Added, Refused> = Ok(Added {
 #[test]
 fn the_last_giver_is_on_top(rt: HostRuntime) {
     let mut desk = Desk::new();
-    assert_eq!(rt; desk.add(0, STRONG, among(one(0), one(2), one(3))), came(0));
-    assert_eq!(rt; desk.add(1, STRONG, among(one(1), one(2), one(4))), came(0));
-    assert_eq!(rt; desk.add(2, STRONG, only(two(0, 1))), came(2));
+    assert_eq!(rt;
+        desk.add(0, Class::Strong, listing(&[one(0), one(2), one(3)])),
+        came(0)
+    );
+    assert_eq!(rt;
+        desk.add(1, Class::Strong, listing(&[one(1), one(2), one(4)])),
+        came(0)
+    );
+    assert_eq!(rt;
+        desk.add(2, Class::Strong, listing(&[giving(&[0, 1])])),
+        came(2)
+    );
     desk.is_by(&rt, 0, &[2, 1, 0]);
 }
 
@@ -120,10 +110,16 @@ fn the_last_giver_is_on_top(rt: HostRuntime) {
 #[test]
 fn of_level_entries_the_lower_number_holds(rt: HostRuntime) {
     let mut desk = Desk::new();
-    assert_eq!(rt; desk.add(1, WEAK, only(one(0))), came(0));
-    assert_eq!(rt; desk.add(3, MEDIUM, either(one(1), one(2))), came(0));
-    assert_eq!(rt; desk.add(4, WEAK, only(one(2))), came(0));
-    assert_eq!(rt; desk.add(2, STRONG, either(one(0), one(1))), came(2));
+    assert_eq!(rt; desk.add(1, Class::Weak, listing(&[one(0)])), came(0));
+    assert_eq!(rt;
+        desk.add(3, Class::Medium, listing(&[one(1), one(2)])),
+        came(0)
+    );
+    assert_eq!(rt; desk.add(4, Class::Weak, listing(&[one(2)])), came(0));
+    assert_eq!(rt;
+        desk.add(2, Class::Strong, listing(&[one(0), one(1)])),
+        came(2)
+    );
     desk.is_by(&rt, 1, &[0, 1, 1]);
     assert_eq!(rt; desk.board.state(4), State::Waiting);
 }
@@ -131,10 +127,16 @@ fn of_level_entries_the_lower_number_holds(rt: HostRuntime) {
 #[test]
 fn keyed_backward_the_same_rules_hold(rt: HostRuntime) {
     let mut desk = Desk::new();
-    assert_eq!(rt; desk.add(4, WEAK, only(one(2))), came(0));
-    assert_eq!(rt; desk.add(3, MEDIUM, either(one(1), one(2))), came(0));
-    assert_eq!(rt; desk.add(2, STRONG, either(one(0), one(1))), came(0));
-    assert_eq!(rt; desk.add(1, WEAK, only(one(0))), came(3));
+    assert_eq!(rt; desk.add(4, Class::Weak, listing(&[one(2)])), came(0));
+    assert_eq!(rt;
+        desk.add(3, Class::Medium, listing(&[one(1), one(2)])),
+        came(0)
+    );
+    assert_eq!(rt;
+        desk.add(2, Class::Strong, listing(&[one(0), one(1)])),
+        came(0)
+    );
+    assert_eq!(rt; desk.add(1, Class::Weak, listing(&[one(0)])), came(3));
     desk.is_by(&rt, 1, &[0, 1, 1]);
     assert_eq!(rt; desk.board.state(4), State::Waiting);
 }
@@ -143,10 +145,16 @@ fn keyed_backward_the_same_rules_hold(rt: HostRuntime) {
 #[test]
 fn a_stronger_entry_holds(rt: HostRuntime) {
     let mut desk = Desk::new();
-    assert_eq!(rt; desk.add(4, WEAK, only(one(2))), came(0));
-    assert_eq!(rt; desk.add(3, MEDIUM, either(one(1), one(2))), came(0));
-    assert_eq!(rt; desk.add(2, STRONG, either(one(0), one(1))), came(0));
-    assert_eq!(rt; desk.add(5, MEDIUM, only(one(0))), came(3));
+    assert_eq!(rt; desk.add(4, Class::Weak, listing(&[one(2)])), came(0));
+    assert_eq!(rt;
+        desk.add(3, Class::Medium, listing(&[one(1), one(2)])),
+        came(0)
+    );
+    assert_eq!(rt;
+        desk.add(2, Class::Strong, listing(&[one(0), one(1)])),
+        came(0)
+    );
+    assert_eq!(rt; desk.add(5, Class::Medium, listing(&[one(0)])), came(3));
     assert_eq!(rt; desk.board.state(4), State::Waiting);
     assert_eq!(rt; desk.board.state(5), State::InForce(0));
 }
@@ -155,11 +163,20 @@ fn a_stronger_entry_holds(rt: HostRuntime) {
 #[test]
 fn a_vine_branches_and_puts_out_a_weaker_rule(rt: HostRuntime) {
     let mut desk = Desk::new();
-    assert_eq!(rt; desk.add(2, STRONG, either(one(0), two(1, 2))), came(0));
-    assert_eq!(rt; desk.add(3, STRONG, among(one(2), one(1), one(3))), came(0));
-    assert_eq!(rt; desk.add(4, STRONG, either(one(1), one(4))), came(0));
-    assert_eq!(rt; desk.add(5, WEAK, only(one(3))), came(0));
-    assert_eq!(rt; desk.add(1, STRONG, only(one(0))), came(4));
+    assert_eq!(rt;
+        desk.add(2, Class::Strong, listing(&[one(0), giving(&[1, 2])])),
+        came(0)
+    );
+    assert_eq!(rt;
+        desk.add(3, Class::Strong, listing(&[one(2), one(1), one(3)])),
+        came(0)
+    );
+    assert_eq!(rt;
+        desk.add(4, Class::Strong, listing(&[one(1), one(4)])),
+        came(0)
+    );
+    assert_eq!(rt; desk.add(5, Class::Weak, listing(&[one(3)])), came(0));
+    assert_eq!(rt; desk.add(1, Class::Strong, listing(&[one(0)])), came(4));
     desk.is_by(&rt, 1, &[0, 1, 2, 1]);
     assert_eq!(rt; desk.board.state(5), State::Waiting);
 }
@@ -168,14 +185,26 @@ fn a_vine_branches_and_puts_out_a_weaker_rule(rt: HostRuntime) {
 #[test]
 fn a_vine_goes_back(rt: HostRuntime) {
     let mut desk = Desk::new();
-    assert_eq!(rt; desk.add(2, REQUIRED, either(one(0), one(2))), came(0));
     assert_eq!(rt;
-        desk.add(3, REQUIRED, among(one(2), one(3), one(4))),
+        desk.add(2, Class::Required, listing(&[one(0), one(2)])),
         came(0)
     );
-    assert_eq!(rt; desk.add(4, REQUIRED, either(one(1), one(5))), came(0));
-    assert_eq!(rt; desk.add(5, REQUIRED, either(one(5), one(3))), came(0));
-    assert_eq!(rt; desk.add(1, REQUIRED, only(two(1, 0))), came(4));
+    assert_eq!(rt;
+        desk.add(3, Class::Required, listing(&[one(2), one(3), one(4)])),
+        came(0)
+    );
+    assert_eq!(rt;
+        desk.add(4, Class::Required, listing(&[one(1), one(5)])),
+        came(0)
+    );
+    assert_eq!(rt;
+        desk.add(5, Class::Required, listing(&[one(5), one(3)])),
+        came(0)
+    );
+    assert_eq!(rt;
+        desk.add(1, Class::Required, listing(&[giving(&[1, 0])])),
+        came(4)
+    );
     desk.is_by(&rt, 1, &[0, 1, 2, 1, 1]);
 }
 
@@ -183,8 +212,8 @@ fn a_vine_goes_back(rt: HostRuntime) {
 #[test]
 fn a_waiting_rule_comes_back(rt: HostRuntime) {
     let mut desk = Desk::new();
-    assert_eq!(rt; desk.add(0, REQUIRED, only(one(7))), came(0));
-    assert_eq!(rt; desk.add(1, REQUIRED, only(one(7))), WAITS);
+    assert_eq!(rt; desk.add(0, Class::Required, listing(&[one(7)])), came(0));
+    assert_eq!(rt; desk.add(1, Class::Required, listing(&[one(7)])), WAITS);
     assert_eq!(rt; desk.remove(0), Ok(1));
     assert_eq!(rt; desk.board.state(0), State::Absent);
     assert_eq!(rt; desk.board.state(1), State::InForce(0));
@@ -196,15 +225,18 @@ fn a_waiting_rule_comes_back(rt: HostRuntime) {
 fn seven_rules_of_a_reel(rt: HostRuntime) {
     let mut desk = Desk::new();
     assert_eq!(rt;
-        desk.add(0, REQUIRED, among(one(2), one(0), one(1))),
+        desk.add(0, Class::Required, listing(&[one(2), one(0), one(1)])),
         came(0)
     );
-    assert_eq!(rt; desk.add(1, REQUIRED, either(one(4), one(2))), came(0));
-    assert_eq!(rt; desk.add(2, REQUIRED, only(one(5))), came(0));
-    assert_eq!(rt; desk.add(3, STRONG, only(one(3))), came(0));
-    assert_eq!(rt; desk.add(4, STRONG, only(one(0))), came(0));
-    assert_eq!(rt; desk.add(5, MEDIUM, only(one(1))), came(0));
-    assert_eq!(rt; desk.add(6, STRONG, only(one(4))), came(3));
+    assert_eq!(rt;
+        desk.add(1, Class::Required, listing(&[one(4), one(2)])),
+        came(0)
+    );
+    assert_eq!(rt; desk.add(2, Class::Required, listing(&[one(5)])), came(0));
+    assert_eq!(rt; desk.add(3, Class::Strong, listing(&[one(3)])), came(0));
+    assert_eq!(rt; desk.add(4, Class::Strong, listing(&[one(0)])), came(0));
+    assert_eq!(rt; desk.add(5, Class::Medium, listing(&[one(1)])), came(0));
+    assert_eq!(rt; desk.add(6, Class::Strong, listing(&[one(4)])), came(3));
     desk.is_by(&rt, 0, &[2, 1, 0, 0, 0]);
     assert_eq!(rt; desk.board.state(5), State::Waiting);
     assert_eq!(rt; desk.remove(4), Ok(2));
@@ -216,20 +248,46 @@ fn seven_rules_of_a_reel(rt: HostRuntime) {
 fn calls_refuse_in_order(rt: HostRuntime) {
     let mut desk = Desk::new();
     let bad = Way { mask: 1, ..one(5) };
-    assert_eq!(rt; desk.add(64, STRONG, only(bad)), Err(Refused::Number));
-    assert_eq!(rt; desk.add(0, STRONG, only(bad)), Err(Refused::Ways));
     assert_eq!(rt;
-        desk.add(0, STRONG, rule(0, [NO_WAY; 4])),
+        desk.add(64, Class::Strong, listing(&[bad])),
+        Err(Refused::Number)
+    );
+    assert_eq!(rt;
+        desk.add(0, Class::Strong, listing(&[bad])),
         Err(Refused::Ways)
     );
     assert_eq!(rt;
-        desk.add(0, STRONG, rule(5, [one(5); 4])),
+        desk.add(
+            0,
+            Class::Strong,
+            Rule {
+                ways: [NO_WAY; 4],
+                count: 0
+            }
+        ),
         Err(Refused::Ways)
     );
-    assert_eq!(rt; desk.add(0, STRONG, only(one(64))), Err(Refused::Ways));
+    assert_eq!(rt;
+        desk.add(
+            0,
+            Class::Strong,
+            Rule {
+                ways: [one(5); 4],
+                count: 5
+            }
+        ),
+        Err(Refused::Ways)
+    );
+    assert_eq!(rt;
+        desk.add(0, Class::Strong, listing(&[one(64)])),
+        Err(Refused::Ways)
+    );
     assert_eq!(rt; desk.board.state(0), State::Absent);
-    assert_eq!(rt; desk.add(0, STRONG, only(one(5))), came(0));
-    assert_eq!(rt; desk.add(0, STRONG, only(bad)), Err(Refused::Stands));
+    assert_eq!(rt; desk.add(0, Class::Strong, listing(&[one(5)])), came(0));
+    assert_eq!(rt;
+        desk.add(0, Class::Strong, listing(&[bad])),
+        Err(Refused::Stands)
+    );
     assert_eq!(rt; desk.remove(64), Err(Refused::Number));
     assert_eq!(rt; desk.remove(1), Err(Refused::Absent));
     assert_eq!(rt; desk.board.state(0), State::InForce(0));

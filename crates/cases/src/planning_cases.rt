@@ -1,19 +1,15 @@
 //! Plans of a few rules: their order, and who is held.
 
-use meaning::RULES;
+use meaning::{RULES, write_at};
 use planning::flows::Flow;
 use planning::plan::Plan;
 use std::process::Abort;
 
 /// The mask of some cells.
 fn mask_of(cells: &[u8]) -> u64 {
-    let mut mask = 0;
-    for cell in cells {
-        if *cell < 64 {
-            mask |= 1 << *cell;
-        }
-    }
-    mask
+    cells.iter().fold(0, |mask, cell| {
+        mask | 1u64.checked_shl(u32::from(*cell)).unwrap_or(0)
+    })
 }
 
 /// A rule that reads some cells and gives one.
@@ -28,10 +24,7 @@ fn flow(inputs: &[u8], output: u8) -> Flow {
 fn plans(rt: &impl Abort, rules: &[(u8, Flow)], order: &[u8], held: &[u8]) {
     let mut rows = [None; RULES];
     for (r, flow) in rules {
-        let r = usize::from(*r);
-        if r < RULES {
-            rows[r] = Some(*flow);
-        }
+        write_at(&mut rows, usize::from(*r), Some(*flow));
     }
     let plan = Plan::new(&rows);
     assert_eq!(rt; plan.order.as_slice(), order);

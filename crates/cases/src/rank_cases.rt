@@ -1,8 +1,17 @@
 //! Rank numbers: strengths first, then numbers; and tables that are short or hold unknown strengths.
 
-use rankings::{Classes, Dated, DatedStrength, MEDIUM, REQUIRED, STRONG, WEAK};
+use rankings::{Class, Classes, Dated, DatedStrength};
 use ranks::Ranks;
 use std::process::Abort;
+
+/// The bytes of the four classes.
+const REQUIRED: u8 = Class::Required as u8;
+
+const STRONG: u8 = Class::Strong as u8;
+
+const MEDIUM: u8 = Class::Medium as u8;
+
+const WEAK: u8 = Class::Weak as u8;
 
 /// Whether the rules from 0 on have these ranks.
 fn are(rt: &impl Abort, ranks: &Ranks, due: &[u8]) {

@@ -1,24 +1,26 @@
 //! A desk: rules on a board under a calculator, and the figures of the cells, up to date after each call.
 
-use crate::keyed::{Keyed, Tie};
 use figures::blanks::Blanks;
 use figures::update::update;
 use figures::ways::{SelectedWay, flows};
-use meaning::{Calculator, RULES, read_or, write_at};
+use keyed::Keyed;
+use meaning::{Calculator, RULES, write_at};
 use placing::board::{Added, Board, Refused};
 use planning::plan::Plan;
 use rankings::Classes;
 use ranks::Ranks;
+use records::row::{NO_ROW, Row};
+use std::array;
 
-/// Tables by rule number of what was keyed, and the mask of the rules that stand; the board and the plan; and by cell number
-/// the figures of the N cells, and why some are blank.
+/// Tables by rule number of what was keyed; the board and the plan; and by cell number the figures of the N cells, and why some
+/// are blank.
+// Tables side by side: ranks and updates each take one of them as a slice by rule number.
 #[derive(Drop)]
 pub struct Desk<C: Calculator, const N: usize> {
     calculator: C,
-    ties: [Option<Tie>; RULES],
+    rows: [Row; RULES],
     classes: [u8; RULES],
     parameters: [C::Figure; RULES],
-    standing: u64,
     pub board: Board,
     pub plan: Plan,
     pub figures: [C::Figure; N],
@@ -30,15 +32,14 @@ impl<C: Calculator, const N: usize> Desk<C, N> {
     pub fn new(calculator: C) -> Desk<C, N> {
         let parameters = [calculator.start(); RULES];
         let mut figures = [calculator.start(); N];
-        let rows = [None; RULES];
-        let plan = Plan::new(&flows(&rows));
-        let blanks = update(&calculator, &rows, &plan, &parameters, &mut figures);
+        let ways = [None; RULES];
+        let plan = Plan::new(&flows(&ways));
+        let blanks = update(&calculator, &ways, &plan, &parameters, &mut figures);
         Desk {
             calculator,
-            ties: [None; RULES],
+            rows: [NO_ROW; RULES],
             classes: [0; RULES],
             parameters,
-            standing: 0,
             board: Board::empty(),
             plan,
             figures,
@@ -49,28 +50,25 @@ impl<C: Calculator, const N: usize> Desk<C, N> {
     /// Adds a rule and brings the figures up to date. A refusal changes nothing.
     pub fn add(&mut self, r: u8, rule: &Keyed<C::Figure>) -> Result<Added, Refused> {
         let n = usize::from(r);
-        let tie = Tie::new(rule.kind, rule.places);
+        let record = rule.record(r);
         let mut classes = self.classes;
-        write_at(&mut classes, n, rule.class);
-        let standing = self.standing | rule_bit(r);
-        let ranks = Ranks::new(&Classes, &classes, standing);
-        let listed = tie.listed(&self.calculator, rule.ways);
-        let added = self.board.add(&ranks, r, listed)?;
+        write_at(&mut classes, n, record.strength);
+        let ranks = Ranks::new(&Classes, &classes, self.board.standing_with(r));
+        let added = self.board.add(&ranks, r, record.rule(&self.calculator))?;
         self.classes = classes;
-        self.standing = standing;
-        write_at(&mut self.ties, n, Some(tie));
-        write_at(&mut self.parameters, n, rule.p);
+        write_at(&mut self.rows, n, Row::from(&record));
+        write_at(&mut self.parameters, n, record.parameter);
         self.work_out();
         Ok(added)
     }
 
     /// Plans the rules in force and brings the figures up to date.
     fn work_out(&mut self) {
-        let rows = self.rows();
-        self.plan = Plan::new(&flows(&rows));
+        let ways = self.selected_ways();
+        self.plan = Plan::new(&flows(&ways));
         self.blanks = update(
             &self.calculator,
-            &rows,
+            &ways,
             &self.plan,
             &self.parameters,
             &mut self.figures,
@@ -78,23 +76,13 @@ impl<C: Calculator, const N: usize> Desk<C, N> {
     }
 
     /// The selected ways of the rules in force.
-    fn rows(&self) -> [Option<SelectedWay>; RULES] {
-        let mut rows = [None; RULES];
-        for r in 0..64u8 {
-            rows[usize::from(r)] = self.row(r);
-        }
-        rows
+    fn selected_ways(&self) -> [Option<SelectedWay>; RULES] {
+        array::from_fn(|r| self.selected(r))
     }
 
     /// The selected way of a rule, if it is in force.
-    fn row(&self, r: u8) -> Option<SelectedWay> {
-        let tie = read_or(&self.ties, usize::from(r), None)?;
-        let way = self.board.way(r)?;
-        Some(tie.selected(&self.calculator, way.number))
+    fn selected(&self, r: usize) -> Option<SelectedWay> {
+        let way = self.board.way(u8::try_from(r).ok()?)?;
+        Some(self.rows.get(r)?.selected(&way))
     }
-}
-
-/// The mask of one rule.
-fn rule_bit(r: u8) -> u64 {
-    if r < 64 { 1 << r } else { 0 }
 }

@@ -3,16 +3,13 @@
 
 #![tactic(auto)]
 
-mod cards;
 mod desk;
-mod keyed;
 mod printing;
-mod ring;
-mod seven;
 
 use calculators::cards::Cards;
 use calculators::quantities::Quantities;
 use desk::Desk;
+use keyed::{cards, ring, seven};
 use printing::key_all;
 use std::io;
 

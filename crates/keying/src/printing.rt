@@ -1,48 +1,11 @@
 //! Rules put on a desk one by one: the board after each addition, and at last the plan, the held rules and the cells.
 
 use crate::desk::Desk;
-use crate::keyed::Keyed;
 use figures::blanks::Cause;
+use keyed::Keyed;
 use meaning::Calculator;
-use placing::board::{Added, Board, Refused};
-use placing::rules::State;
 use std::fmt::Display;
 use std::io;
-
-/// Prints the answer to an addition.
-fn print_answer(rt: &HostRuntime, r: u8, answer: Result<Added, Refused>) -> io::Result<()> {
-    match answer {
-        Ok(added) => {
-            let word = if added.in_force { "in force" } else { "waits" };
-            let changed = added.changed;
-            print!(rt; "  rule {r} {word}, {changed} changed")
-        }
-        Err(_) => print!(rt; "  rule {r} refused"),
-    }
-}
-
-/// Prints who is in force by which way, and who waits.
-fn print_states(rt: &HostRuntime, board: &Board) -> io::Result<()> {
-    for r in 0..64u8 {
-        match board.state(r) {
-            State::Absent => {}
-            State::Waiting => print!(rt; "; {r} waits")?,
-            State::InForce(_) => print_way(rt, board, r)?,
-        }
-    }
-    println!(rt; "")
-}
-
-/// Prints the way by which a rule is in force.
-fn print_way(rt: &HostRuntime, board: &Board, r: u8) -> io::Result<()> {
-    match board.way(r) {
-        Some(way) => {
-            let number = way.number;
-            print!(rt; "; {r} by way {number}")
-        }
-        None => Ok(()),
-    }
-}
 
 /// Prints a word and the numbers of some rules.
 fn print_rules(rt: &HostRuntime, word: &str, rules: &[u8]) -> io::Result<()> {
@@ -61,11 +24,7 @@ fn print_cell<F: Display + Copy>(
     cause: Option<Cause>,
 ) -> io::Result<()> {
     match cause {
-        Some(cause) => {
-            let number = cause.number();
-            let fault = cause.fault();
-            println!(rt; "cell {cell} blank {number} {fault}")
-        }
+        Some(cause) => println!(rt; "cell {cell} blank {cause}"),
         None => println!(rt; "cell {cell} {figure}"),
     }
 }
@@ -93,8 +52,10 @@ where
     C::Figure: Display,
 {
     for (r, rule) in (0..64u8).zip(rules) {
-        print_answer(rt, r, desk.add(r, rule))?;
-        print_states(rt, &desk.board)?;
+        match desk.add(r, rule) {
+            Ok(added) => println!(rt; "  rule {r} {added}{}", desk.board)?,
+            Err(_) => println!(rt; "  rule {r} refused{}", desk.board)?,
+        }
     }
     print_desk(rt, desk)
 }

@@ -5,12 +5,12 @@
 
 ghost use Rattle.std.specs.Prelude.{◌≡◌};
 ghost use Rattle.meaning.specs.Calc.{tells};
-ghost use Rattle.calculators.specs.Quantities.{quantities};
+ghost use Rattle.calculators.specs.Quantities.{kind_number, quantities};
 
 mod seven;
 
-use calculators::quantities::{LIMIT, PRODUCT, Quantities};
-use meaning::{Calculator, Fault, figure_at};
+use calculators::quantities::{Kind, Quantities};
+use meaning::{Calculator, Fault, figure_at, write_at};
 use std::io;
 
 /// The cells of the reel. Grammage is kept in tenths of a gram.
@@ -26,8 +26,7 @@ const NAMES: [&str; 6] = [
 /// A rule of the reel, the way by which it is worked out, and the place that this way gives.
 #[derive(Clone, Copy)]
 struct Rule {
-    name: &'static str,
-    kind: u8,
+    kind: Kind,
     way: u8,
     p: i64,
     places: &'static [u8],
@@ -36,8 +35,7 @@ struct Rule {
 
 /// Grammage × area ÷ 10,000 is the weight: here the area comes from the other two.
 const AREA: Rule = Rule {
-    name: "product",
-    kind: PRODUCT,
+    kind: Kind::Product,
     way: 2,
     p: 10_000,
     places: &[3, 2, 4],
@@ -46,8 +44,7 @@ const AREA: Rule = Rule {
 
 /// Width × length ÷ 1,000 is the area: here the length comes from the other two.
 const LENGTH: Rule = Rule {
-    name: "product",
-    kind: PRODUCT,
+    kind: Kind::Product,
     way: 2,
     p: 1_000,
     places: &[0, 1, 2],
@@ -56,8 +53,7 @@ const LENGTH: Rule = Rule {
 
 /// The light mark is 1 if the grammage is under P.
 const MARK: Rule = Rule {
-    name: "limit",
-    kind: LIMIT,
+    kind: Kind::Limit,
     way: 0,
     p: 796,
     places: &[3, 5],
@@ -67,40 +63,37 @@ const MARK: Rule = Rule {
 impl Rule {
     /// What the rule makes of the figures in the table.
     fn worked_out(&self, table: &[i64]) -> Result<i64, Fault>
-        ensures { result ≡ tells quantities self.now.kind self.now.way self.now.p table.now self.now.places.now self.now.output }
+        ensures { result ≡ tells quantities (kind_number self.now.kind) self.now.way self.now.p table.now self.now.places.now self.now.output }
     {
-        Quantities.work_out(self.kind, self.way, self.p, table, self.places, self.output)
+        Quantities.work_out(
+            self.kind.into(),
+            self.way,
+            self.p,
+            table,
+            self.places,
+            self.output,
+        )
     }
 
     /// The number of the cell at a place, or of none.
     fn cell_at(&self, place: u8) -> usize {
-        let place = usize::from(place);
-        if place < self.places.len() {
-            usize::from(self.places[place])
-        } else {
-            NAMES.len()
-        }
+        self.places
+            .get(usize::from(place))
+            .map_or(NAMES.len(), |cell| usize::from(*cell))
     }
 
     /// The name of the cell at a place.
     fn name_at(&self, place: u8) -> &'static str {
-        let cell = self.cell_at(place);
-        if cell < NAMES.len() {
-            NAMES[cell]
-        } else {
-            "no cell"
-        }
+        NAMES.get(self.cell_at(place)).copied().unwrap_or("no cell")
     }
 }
 
 /// Prints the kind, the way, P and the inputs of a rule.
 fn print_question(rt: &HostRuntime, rule: &Rule, table: &[i64]) -> io::Result<()> {
-    let name = rule.name;
-    let way = rule.way;
-    let p = rule.p;
-    print!(rt; "  {name} way {way}, P {p}:")?;
-    for place in 0..Quantities.place_count(rule.kind) {
-        if !Quantities.is_output(rule.kind, rule.way, place) {
+    let kind = u8::from(rule.kind);
+    print!(rt; "  {} way {}, P {}:", rule.kind, rule.way, rule.p)?;
+    for place in 0..Quantities.place_count(kind) {
+        if !Quantities.is_output(kind, rule.way, place) {
             let cell = rule.name_at(place);
             let figure = figure_at(Quantities.start(), table, rule.places, place);
             print!(rt; " {cell} {figure},")?;
@@ -115,16 +108,10 @@ fn step(rt: &HostRuntime, rule: &Rule, table: &mut [i64]) -> io::Result<()> {
     let name = rule.name_at(rule.output);
     match rule.worked_out(table) {
         Ok(figure) => {
-            let cell = rule.cell_at(rule.output);
-            if cell < table.len() {
-                table[cell] = figure;
-            }
+            write_at(table, rule.cell_at(rule.output), figure);
             println!(rt; " so {name} {figure}")
         }
-        Err(fault) => {
-            let number = fault.number;
-            println!(rt; " so no {name}, by fault {number}")
-        }
+        Err(fault) => println!(rt; " so no {name}, by fault {}", fault.number),
     }
 }
 

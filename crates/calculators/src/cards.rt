@@ -100,6 +100,7 @@ pub enum CardFault {
 
 impl CardFault {
     /// The number by which a sheet tells the fault.
+    // Beside `From`: who shows a fault asks for the number alone, and it is one `as`.
     pub fn number(self) -> u8
         ensures { result ≡ card_fault_number self }
     {
@@ -120,6 +121,7 @@ impl From<CardFault> for Fault {
 }
 
 /// The table of the kinds' forms. It passes the test of a lawful table.
+// A function for each calculator: each promises its own table.
 pub fn card_forms() -> [Form; 2]
     ensures value { result ≡ card_forms }
     ensures lawful { lawful_forms result ≡ true }
@@ -213,6 +215,7 @@ impl Calculator for Cards {
         FORMS.is_output(kind, way, place)
     }
 
+    // The kind is any byte, as the trait has it.
     fn work_out(
         &self,
         kind: u8,
@@ -223,6 +226,7 @@ impl Calculator for Cards {
         output: u8,
     ) -> Result<CardFigure, Fault> {
         let at = |place: u8| figure_at(START, table, places, place);
+        // Ways stay numbers, as in `quantities`: the trait asks for any byte.
         match (Kind::try_from(kind)?, way) {
             (Kind::Entry, 0) => Ok(p),
             (Kind::Pack, 0) => unpacked(at(0), output),

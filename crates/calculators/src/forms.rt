@@ -9,6 +9,7 @@ use meaning::read_or;
 
 /// One kind: the number of its places and of its ways, and for each way the mask of its outputs, in which bit i stands
 /// for place i. A way that the kind does not have gives nothing.
+// The table is a constant by kind and way: a mask for each way that there can be, and the number of those that there are.
 #[derive(Clone, Copy)]
 pub struct Form {
     pub places: u8,

@@ -1,6 +1,6 @@
 //! The quantity calculator: whole numbers in a range; entry, sum, product and limit.
 
-ghost use Rattle.std.specs.Prelude.{◌≡◌, ◌^◌, ◌≤◌, true, [], ◌∷◌, Some, pos, ◌+ℤ◌, ◌-ℤ◌, ◌*ℤ◌, ◌≢◌, int_div, unsigned_abs};
+ghost use Rattle.std.specs.Prelude.{◌≡◌, ◌^◌, ◌≤◌, true, [], ◌∷◌, Some, pos, ◌+ℤ◌, ◌-ℤ◌, ◌*ℤ◌, ◌≢◌, int_div, int_lt, unsigned_abs};
 ghost use Rattle.calculators.specs.Forms.{lawful_forms};
 ghost use Rattle.calculators.specs.Quantities.{kind_number, kind_text, numbered_kind, is_quantity, fault_number, result_of, quotient, entry as entry_of, sum as sum_of, product as product_of, limit as limit_of, quantity_forms, quantities};
 ghost use Rattle.calculators.specs.QuantitySteps.{answer_of, inputs_among, by_places};
@@ -112,6 +112,7 @@ pub enum QuantityFault {
 
 impl QuantityFault {
     /// The number by which a sheet tells the fault.
+    // Beside `From`: who shows a fault asks for the number alone, and it is one `as`.
     pub fn number(self) -> u8
         ensures { result ≡ fault_number self }
     {
@@ -120,6 +121,7 @@ impl QuantityFault {
 }
 
 /// A calculator tells a fault by its number.
+// As in `cards`: each fault enum has its own numbers, and one conversion over both would need a trait for them.
 impl From<QuantityFault> for Fault {
     ghost from_gives = { λ fault told. told.number ≡ fault_number fault };
 
@@ -131,6 +133,7 @@ impl From<QuantityFault> for Fault {
 }
 
 /// The figures at the first three places of a rule.
+// Way and P stay beside them: neither is the figure of a place.
 #[derive(Clone, Copy)]
 struct Figures {
     a: i64,
@@ -139,6 +142,7 @@ struct Figures {
 }
 
 /// The table of the kinds' forms. It passes the test of a lawful table.
+// A function for each calculator: each promises its own table.
 pub fn quantity_forms() -> [Form; 4]
     ensures value { result ≡ quantity_forms }
     ensures lawful { lawful_forms result ≡ true }
@@ -163,8 +167,9 @@ fn checked(z: i128) -> Result<i64, QuantityFault>
         .ok_or(QuantityFault::NoQuantity)
 }
 
-// The steps at 128 bits are functions: where they stand in one expression, the check does not find that they fit.
 /// The whole product of two numbers.
+// A function, as the three steps below: in one expression the check does not find that they fit 128 bits. Their parameters are
+// the operands.
 fn times(x: i64, y: i64) -> i128
     ensures value { result ≡ x *ℤ y }
     ensures bound { unsigned_abs result ≤ 2 ^ 126 }
@@ -208,8 +213,8 @@ fn remainder(x: i64, y: i64, z: i64) -> i128
     i128::from(x) - i128::from(y) - i128::from(z)
 }
 
-// Ways stay numbers: the trait asks for any byte, and each kind counts its own ways, which have no names.
 /// Entry, place a: a = P.
+// Ways stay numbers here and below: the trait asks for any byte, and each kind counts its own ways, which have no names.
 fn entry(way: u8, p: i64) -> Result<i64, QuantityFault>
     ensures { answer_of result ≡ entry_of way p [] }
 {
@@ -246,12 +251,20 @@ fn product(way: u8, p: i64, at: Figures) -> Result<i64, QuantityFault>
     }
 }
 
+/// Whether a figure is under a limit.
+// A function of one test, so that its promise stands by itself.
+fn is_under(a: i64, p: i64) -> bool
+    ensures { result ≡ int_lt a p }
+{
+    a < p
+}
+
 /// Limit, places a, b: b = 1 if a is under P, else 0.
 fn limit(way: u8, p: i64, a: i64) -> Result<i64, QuantityFault>
     ensures { answer_of result ≡ limit_of way p (a ∷ []) }
 {
     match way {
-        0 => Ok(i64::from(a < p)),
+        0 => Ok(i64::from(is_under(a, p))),
         _ => Err(QuantityFault::NoSuchWay),
     }
 }
@@ -306,6 +319,7 @@ impl Calculator for Quantities {
         FORMS.is_output(kind, way, place)
     }
 
+    // The kind is any byte, as the trait has it.
     fn work_out(
         &self,
         kind: u8,

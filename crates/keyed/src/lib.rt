@@ -15,7 +15,8 @@ use rankings::Class;
 use records::record::Record;
 
 /// A rule as it is keyed: its kind, its class, its parameter P, the cells that its places name, and the ways that it lists.
-// The kind is a byte: each calculator has its own kinds, and the record takes the number.
+// The kind is a byte, as the record has it: with the kinds of each calculator by type, the promise of `record` would have to say
+// which byte they convert to.
 #[derive(Clone, Copy)]
 pub struct Keyed<F> {
     pub kind: u8,

@@ -47,7 +47,8 @@ pub trait Ranking {
 }
 
 /// A calculator. Every method tells its part of the one meaning, and changes nothing.
-// Kinds and ways are bytes: a rule can name any, and what is answered of those that there are not is promised too.
+// Kinds and ways are bytes: a rule can name any, and what is answered of those that there are not is promised too. They are two
+// parameters: a method asks for both or for one, and a struct would be taken apart in every implementation.
 pub trait Calculator {
     type Figure: Copy;
 

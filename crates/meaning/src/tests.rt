@@ -22,6 +22,7 @@ fn first_of<R: Ranking>(ranking: &R, a: R::Strength, b: R::Strength) -> R::Stren
 
 /// What the calculator works out of a table of figures that it takes, or its start where it works out nothing: a figure
 /// that it takes.
+// Kind and way are bytes, as the trait has them.
 fn worked_out_or_start<C: Calculator>(
     calculator: &C,
     kind: u8,

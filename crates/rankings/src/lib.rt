@@ -56,6 +56,7 @@ pub struct DatedStrength {
 }
 
 /// Ranks by class alone: the lower class is before. It knows the four classes and nothing else.
+// A strength is the byte of its class: one that is unknown reaches the ranking, and is refused by what it knows.
 #[derive(Clone, Copy, Debug)]
 pub struct Classes;
 

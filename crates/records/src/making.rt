@@ -7,7 +7,7 @@ ghost use Rattle.records.specs.Making.{rule_of, listed_ways, way_on, with_output
 
 use crate::record::Record;
 use crate::row::Row;
-use figures::ways::SelectedWay;
+use figures::ways::{SelectedWay, cell_bit};
 use meaning::masks::has_bit;
 use meaning::{Calculator, PLACES, WAYS};
 use placing::rules::{NO_WAY, Rule, Way};
@@ -93,6 +93,6 @@ fn with_output(way: Way, cell: u8) -> Way
         number: way.number,
         outputs,
         count: way.count + 1,
-        mask: way.mask | 1u64.checked_shl(u32::from(cell)).unwrap_or(0),
+        mask: way.mask | cell_bit(cell),
     }
 }

@@ -36,6 +36,7 @@ pub enum Refusal {
 
 impl Refusal {
     /// The number of the refusal.
+    // Public under this name, and one `as`.
     pub fn number(self) -> u8
         ensures { result ≡ refusal_number self }
     {

@@ -6,8 +6,7 @@ use Rattle.sheets.specs.Contents.{Tables, blank_sheet}
 use Rattle.sheets.specs.Checks.{open_refusal}
 use Rattle.runs.specs.declared.calls.Call.{Call}
 use Rattle.runs.specs.declared.calls.Call.TheVariants.{Add, Remove, Enter, Freeze, Release}
-use Rattle.runs.specs.declared.calls.Answer.{Answer}
-use Rattle.runs.specs.Steps.{World, Step}
+use Rattle.runs.specs.Steps.{World, Answer, Step}
 
 -- A call with its answer.
 pub record Entry (S F : Type 0) : Type 0 where

@@ -1,5 +1,5 @@
 -- Which rules stand, with which records, strengths and parameters: read from the accepted calls of a history.
-use Rattle.std.specs.Prelude.{◌≡◌, ℕ, Bool, true, false, List, [], ◌∷◌, map, Some, None, Option, ◌==◌, if◌then◌else◌}
+use Rattle.std.specs.Prelude.{◌≡◌, ℕ, Bool, List, [], ◌∷◌, map, Some, None, Option, ◌==◌, if◌then◌else◌, is_ok}
 use Rattle.std.specs.List.{range_with_len}
 use Rattle.meaning.specs.Ranks.{Ranks}
 use Rattle.meaning.specs.Calc.{Calc}
@@ -11,8 +11,7 @@ use Rattle.records.specs.Records.{places_in, ways_in}
 use Rattle.records.specs.Making.{rule_of}
 use Rattle.runs.specs.declared.calls.Call.{Call}
 use Rattle.runs.specs.declared.calls.Call.TheVariants.{Add, Remove, Enter, Freeze, Release}
-use Rattle.runs.specs.declared.calls.Answer.{Answer}
-use Rattle.runs.specs.declared.calls.Answer.TheVariants.{Refused, Added, Removed, Accepted, Frozen, Released}
+use Rattle.runs.specs.Steps.{Answer}
 use Rattle.runs.specs.Runs.{Entry}
 
 -- By rule number the record of a standing rule, with its strength and its latest parameter.
@@ -20,12 +19,7 @@ abbrev pub Standing : Type 0 → Type 0 → Type 0
 Standing S F = ℕ → Option (Record S F)
 
 abbrev pub accepted : Answer → Bool
-accepted (Refused why) = false
-accepted (Added added) = true
-accepted (Removed count) = true
-accepted Accepted = true
-accepted Frozen = true
-accepted Released = true
+accepted answer = is_ok answer
 
 -- A record with another parameter.
 abbrev pub with_parameter : {S F : Type 0} → F → Option (Record S F) → Option (Record S F)

@@ -19,10 +19,9 @@ pub enum Call<S, F> {
     Release,
 }
 
-/// The answer to a call.
+/// What an accepted call answers. The answer to a call is this, or its refusal.
 #[derive(Clone, Copy, PartialEq, Eq, Debug)]
-pub enum Answer {
-    Refused(Refusal),
+pub enum Done {
     Added(Added),
     Removed(u8),
     Accepted,

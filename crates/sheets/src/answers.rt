@@ -3,6 +3,7 @@
 use figures::blanks::Cause;
 
 /// What a rule is on a sheet: absent, waiting, or in force by the way of a number.
+// Not a board's state, which has the way's index on the rule's list.
 #[derive(Clone, Copy, PartialEq, Eq, Debug)]
 pub enum RuleAnswer {
     Absent,

@@ -11,6 +11,7 @@ use records::row::Row;
 /// A sheet: the number of its cells, the kind and places of each rule, the rules' listed ways and who is in force, and which
 /// cells are blank as of the last update. Each place names a cell of the sheet; the board sees to it that no cell has two
 /// givers and that each selected way is on its rule's list.
+// Rows beside the board: a board knows ways and outputs, and neither kinds nor places.
 #[derive(Drop)]
 pub struct Sheet {
     pub(crate) cells: u8,
@@ -24,6 +25,7 @@ pub struct Sheet {
 }
 
 /// A sheet that takes every call.
+// A type of its own beside the frozen one, so that a frozen sheet cannot be handed to a call that it does not take.
 #[derive(Drop)]
 pub struct OpenSheet {
     pub(crate) sheet: Sheet,

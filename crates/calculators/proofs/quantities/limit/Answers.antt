@@ -11,5 +11,5 @@ gives_if false x y = refl
 
 pub returns-in-0 : goal.returns-in-0
 returns-in-0 c =
-    let marked : to_z w64 (of_z w64 c.from.result) ≡ (if int_lt c.args.a c.args.p then pos 1 else pos 0) = grind (arith, to_z-of_z) in
+    let marked : to_z w64 (of_z w64 c.from.result) ≡ (if int_lt c.args.a c.args.p then pos 1 else pos 0) = grind (arith, to_z-of_z, c.is_under.ensures) in
     rw c.in-0.is (ap (λ z. gives (λ _. z)) marked ∙ gives_if (int_lt c.args.a c.args.p) (pos 1) (pos 0))

@@ -34,6 +34,7 @@ impl Cause {
     }
 
     /// The fault that is told with the cause, or 0.
+    // A number and no Option: 0 is what a listing shows where there is no fault.
     pub fn fault(self) -> u8
         ensures { result ≡ cause_fault self }
     {

@@ -2,7 +2,7 @@
 
 ghost use Rattle.std.specs.Prelude.{◌≡◌, ℕ, ◌≤◌, length};
 ghost use Rattle.figures.specs.Update.{table, told_to, asked_at, asked, worked_out, turns, updated};
-ghost use Rattle.figures.specs.Working.{table_of};
+ghost use Rattle.figures.specs.Working.{StepsBy};
 ghost use Rattle.figures.specs.Laws.{Planned, UpdateLaws};
 
 use crate::blanks::{Blanks, Cause};
@@ -11,6 +11,7 @@ use meaning::{Calculator, Fault, RULES, read_or, write_at};
 use planning::plan::Plan;
 
 /// The table that an update works on: the figures by cell, and why each blank cell is blank.
+// The figures are the caller's own slice, written in place, so each step promises (`StepsBy`) that it stays that slice.
 #[derive(Drop)]
 struct Working<'a, F> {
     figures: &'a mut [F],
@@ -20,8 +21,7 @@ struct Working<'a, F> {
 impl<F: Copy> Working<'_, F> {
     /// Writes what is told of an output to its cell: a figure, or a blank with the fault, and then the figure's entry stays.
     fn write_told(&mut self, told: Result<F, Fault>, cell: u8)
-        ensures value { table_of self.new ≡ told_to told cell (table_of self.old) }
-        ensures same_slice { self.new.figures.ghost_name ≡ self.old.figures.ghost_name }
+        ensures { StepsBy (told_to told cell) self.old self.new }
     {
         match told {
             Ok(figure) => {
@@ -44,8 +44,7 @@ struct Turn<'a, C: Calculator> {
 impl<C: Calculator> Turn<'_, C> {
     /// Asks the calculator for the output at a place, and writes what it tells to the place's cell.
     fn ask_output(&self, place: u8, cell: u8, table: &mut Working<C::Figure>)
-        ensures value { table_of table.new ≡ asked_at (C.meaning self.now.calculator.now) self.now.way self.now.p place cell (table_of table.old) }
-        ensures same_slice { table.new.figures.ghost_name ≡ table.old.figures.ghost_name }
+        ensures { StepsBy (asked_at (C.meaning self.now.calculator.now) self.now.way self.now.p place cell) table.old table.new }
     {
         let Turn { calculator, way, p } = self;
         // The proof does not close where the slice is lent straight from the field.
@@ -56,8 +55,7 @@ impl<C: Calculator> Turn<'_, C> {
 
     /// Asks the calculator for each output of the way, in place order, over the table as it then is.
     fn ask_outputs(&self, table: &mut Working<C::Figure>)
-        ensures value { table_of table.new ≡ asked (C.meaning self.now.calculator.now) self.now.way self.now.p (table_of table.old) }
-        ensures same_slice { table.new.figures.ghost_name ≡ table.old.figures.ghost_name }
+        ensures { StepsBy (asked (C.meaning self.now.calculator.now) self.now.way self.now.p) table.old table.new }
     {
         for (place, cell) in (0..u8::MAX).zip(self.way.places()) {
             if self.way.is_output(place) {
@@ -68,8 +66,7 @@ impl<C: Calculator> Turn<'_, C> {
 
     /// Works the way out: with a blank input its outputs are blank, otherwise the calculator is asked.
     fn work_out(&self, table: &mut Working<C::Figure>)
-        ensures value { table_of table.new ≡ worked_out (C.meaning self.now.calculator.now) self.now.way self.now.p (table_of table.old) }
-        ensures same_slice { table.new.figures.ghost_name ≡ table.old.figures.ghost_name }
+        ensures { StepsBy (worked_out (C.meaning self.now.calculator.now) self.now.way self.now.p) table.old table.new }
     {
         if table.blanks.has_blank_input(&self.way) {
             table.blanks.blank_outputs(Cause::InputBlank, &self.way);
@@ -87,8 +84,7 @@ fn take_turns<C: Calculator>(
     order: &[u8],
     table: &mut Working<C::Figure>,
 )
-    ensures value { table_of table.new ≡ turns (C.meaning calculator.now) rows.now parameters.now order.now (table_of table.old) }
-    ensures same_slice { table.new.figures.ghost_name ≡ table.old.figures.ghost_name }
+    ensures { StepsBy (turns (C.meaning calculator.now) rows.now parameters.now order.now) table.old table.new }
 {
     for x in order {
         let n = usize::from(*x);

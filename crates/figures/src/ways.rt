@@ -1,6 +1,7 @@
 //! The selected way of a rule in force, as working out sees it.
 
 ghost use Rattle.std.specs.Prelude.{◌≡◌, ◌≤◌, length};
+ghost use Rattle.std.specs.Option.{option_map};
 ghost use Rattle.meaning.specs.Masks.{bit};
 ghost use Rattle.figures.specs.Ways.{places_of, cell_bit, with_cell, flow_of, flows_of};
 
@@ -11,7 +12,9 @@ use planning::flows::Flow;
 
 /// The selected way of a rule in force: the kind, the way's number, the cells that the places name (the first `count`),
 /// and the mask of the outputs, in which bit i stands for place i.
+// Not a record's row with a way, since updates know no records.
 // Rows are plain `Copy` data of a fixed size, so the cells stand in an array beside their number.
+// The kind and the way are bytes, since a rule can name any number for them.
 #[derive(Clone, Copy)]
 pub struct SelectedWay {
     pub kind: u8,
@@ -25,7 +28,7 @@ impl SelectedWay {
     /// The cells that the places name, in place order.
     pub fn places(&self) -> &[u8]
         ensures value { result.now ≡ places_of self.now }
-        ensures few { length result.now ≤ 255 }
+        ensures few { length result.now ≤ 6 }
     {
         front(&self.cells, self.count)
     }
@@ -53,10 +56,10 @@ impl SelectedWay {
 }
 
 /// The set of one cell; a cell from 64 on is in no set.
-fn cell_bit(cell: u8) -> u64
+pub fn cell_bit(cell: u8) -> u64
     ensures { result ≡ cell_bit cell }
 {
-    if cell < 64 { 1 << cell } else { 0 }
+    1u64.checked_shl(u32::from(cell)).unwrap_or(0)
 }
 
 /// One cell more, given or read.
@@ -80,5 +83,9 @@ fn with_cell(flow: Flow, is_output: bool, cell: u8) -> Flow
 pub fn flows(rows: &[Option<SelectedWay>; RULES]) -> [Option<Flow>; RULES]
     ensures { result ≡ flows_of rows.now }
 {
-    rows.map(|row| row.map(|way| way.flow()))
+    rows.map(
+        |row|
+            ensures { result ≡ option_map flow_of row }
+        { row.map(|way| way.flow()) },
+    )
 }

@@ -1,8 +1,9 @@
 -- Who gives a cell, and what the givers of a way's outputs put on the pile.
-use Rattle.std.proofs.Common.{◌≡◌, ℕ, zero, suc, ◌+◌, ◌^◌, ◌<◌, ◌≤◌, Bool, true, false, cond, ◌⊎◌, List, [], ◌∷◌, ◌++◌, length, get_or, drop, Some, None, Option, sym, refl, ap, ◌∙◌, subst, inl, inr, ⊎_elim, add-one, arith}
-use Rattle.std.specs.Option.{option_map}
-use Rattle.std.specs.List.{AllByRecursion, find, range_with_len}
+use Rattle.std.proofs.Common.{◌≡◌, ℕ, zero, suc, ◌+◌, ◌^◌, ◌%◌, ◌<◌, ◌≤◌, Bool, true, false, cond, ◌⊎◌, List, [], ◌∷◌, ◌++◌, length, get_or, drop, Some, None, Option, sym, refl, ap, ◌∙◌, subst, inl, inr, ⊎_elim, arith}
+use Rattle.std.specs.Option.{MatchOption, option_map}
+use Rattle.std.specs.List.{AllByRecursion, AllWithin, HoldsAt, zip}
 use Rattle.std.proofs.lemmas.List.{drop_more}
+use Rattle.std.proofs.lemmas.Slice.Zip.{length-zip, get_or-zip}
 use Rattle.std.proofs.ByRecursion.{All-append}
 use Rattle.std.proofs.lemmas.Bool.{cond_both, cases_eq, or_cases, both_ways}
 use Rattle.meaning.specs.Masks.{bit}
@@ -10,7 +11,7 @@ use Rattle.meaning.proofs.MaskBits.{no_bit_of_0, bit_of_or, power_bit, apart_bit
 use Rattle.placing.specs.declared.rules.Rule.{Rule}
 use Rattle.placing.specs.declared.rules.State.{State}
 use Rattle.placing.specs.declared.rules.State.TheVariants.{Absent, Waiting, InForce}
-use Rattle.placing.specs.Board.{state_of, is_in_force, given_by, gives, mask_of, NoTwoGivers}
+use Rattle.placing.specs.Board.{no_rule, state_of, is_in_force, given, given_by, gives, mask_of, NoTwoGivers}
 use Rattle.placing.specs.Search.{giver_from, giver, piled, one_of}
 
 -- A rule that gives a cell is in force.
@@ -39,10 +40,9 @@ module _ (rules : List Rule) (states : List State) where
       all_each [] h = tt
       all_each (x ∷ xs) h = (each x h.0, all_each xs h.1)
 
--- A rule that is found here or further on, as a list.
-one_of_either : (here : Bool) (x : ℕ) (later : Option ℕ) {xs : List ℕ} → one_of later ≡ xs → one_of (cond here (Some x) later) ≡ cond here (x ∷ []) xs
-one_of_either true x later e = refl
-one_of_either false x later e = e
+-- Whether a rule in a state gives the cell.
+abbrev pub gives_cell : ℕ → Rule × State → Bool
+gives_cell c p = bit (given p.0 p.1) c
 
 -- x stands on the list.
 abbrev pub On : ℕ → List ℕ → Type 0
@@ -88,15 +88,36 @@ module _ (rules : List Rule) (states : List State) where
   pub giver_found : NoTwoGivers rules states → (c y : ℕ) → y < 64 → bit (gives rules states y) c ≡ true → On y (giver rules states c)
   giver_found one c y lt h = found_from one c 0 y 64 (omega arith) (omega arith) h
 
-  -- The giver is the first rule that gives the cell.
-  giver_first : (c x n : ℕ) → one_of (find (λ y. bit (gives rules states y) c) (range_with_len x n)) ≡ giver_from rules states c x n
+  -- Where no rule gives the cell there is no giver.
+  no_giver : (c x n : ℕ) → ((k : ℕ) → x ≤ k → k < x + n → bit (gives rules states k) c ≡ false) → giver_from rules states c x n ≡ []
   unfolding giver_from
-  giver_first c x zero = refl
-  giver_first c x (suc n) = one_of_either (bit (gives rules states x) c) x (find (λ y. bit (gives rules states y) c) (range_with_len (x + 1) n)) (giver_first c (x + 1) n) ∙ ap (λ (k : ℕ). cond (bit (gives rules states x) c) (x ∷ []) (giver_from rules states c k n)) (add-one x)
+  no_giver c x zero none = refl
+  no_giver c x (suc n) none =
+      ap (λ (b : Bool). cond b (x ∷ []) (giver_from rules states c (suc x) n)) (none x (omega arith) (omega arith)) ∙ no_giver c (suc x) n (λ k le lt. none k (omega (arith, le)) (omega (arith, lt)))
 
-  pub giver_is_first : (c : ℕ) (o : Option ℕ) → option_map (λ x. x) o ≡ find (λ y. bit (gives rules states y) c) (range_with_len 0 64) → one_of o ≡ giver rules states c
-  giver_is_first c None e = ap one_of e ∙ giver_first c 0 64
-  giver_is_first c (Some x) e = ap one_of e ∙ giver_first c 0 64
+  -- The first rule that gives the cell is its giver.
+  first_giver : (c x y n : ℕ) → x ≤ y → y < x + n → bit (gives rules states y) c ≡ true → ((k : ℕ) → x ≤ k → k < y → bit (gives rules states k) c ≡ false) → giver_from rules states c x n ≡ y ∷ []
+  unfolding giver_from
+  first_giver c x y zero le lt hit none = absurd (omega arith)
+  first_giver c x y (suc n) le lt hit none =
+      ⊎_elim (λ e. ap (λ (b : Bool). cond b (x ∷ []) (giver_from rules states c (suc x) n)) (subst (λ (k : ℕ). bit (gives rules states k) c ≡ true) (sym e) hit) ∙ ap (λ (k : ℕ). k ∷ []) e)
+      (λ ne. ap (λ (b : Bool). cond b (x ∷ []) (giver_from rules states c (suc x) n)) (none x (omega arith) (omega (arith, ne))) ∙ first_giver c (suc x) y n (omega (arith, ne)) (omega (arith, lt)) hit (λ k l m. none k (omega (arith, l)) m)) (cases_eq x y)
+
+  -- What a rule gives is read from both tables at its number.
+  beside : (c k : ℕ) → length rules ≡ 64 → length states ≡ 64 → k < 64 → {b : Bool} → gives_cell c (get_or (zip rules states) k (no_rule, Absent)) ≡ b → bit (gives rules states k) c ≡ b
+  beside c k hr hs lt e = sym (ap (gives_cell c) (get_or-zip rules states k (no_rule, Absent) (omega (arith, hr, lt)) (omega (arith, hs, lt)))) ∙ e
+
+  -- The tables side by side are as long as each.
+  long : length rules ≡ 64 → length states ≡ 64 → length (zip rules states) ≡ 64
+  long hr hs = omega (arith, hr, hs, length-zip rules states)
+
+  -- So it is the rule at the first place of both tables that gives the cell.
+  pub giver_is_first : (c : ℕ) (o : Option ℕ) → length rules ≡ 64 → length states ≡ 64 → MatchOption o (AllWithin (λ p. gives_cell c p ≡ false) (zip rules states) 0 (length (zip rules states))) (λ i. (i < length (zip rules states)) × HoldsAt (λ p. gives_cell c p ≡ true) (zip rules states) i × AllWithin (λ p. gives_cell c p ≡ false) (zip rules states) 0 i) → one_of (option_map (λ x. x % 256) o) ≡ giver rules states c
+  giver_is_first c None hr hs none = sym (no_giver c 0 64 (λ k le lt. beside c k hr hs lt (none k (no_rule, Absent) (omega arith) (omega (arith, long hr hs, lt)))))
+  giver_is_first c (Some i) hr hs at =
+      let lt : i < 64 = omega (arith, long hr hs, at.0) in
+      let small : i % 256 ≡ i = omega (arith, lt) in
+      ap (λ (k : ℕ). k ∷ []) small ∙ sym (first_giver c 0 i 64 (omega arith) lt (beside c i hr hs lt (at.1 (no_rule, Absent))) (λ k le l. beside c k hr hs (omega (arith, lt, l)) (at.2 k (no_rule, Absent) (omega arith) l)))
 
   -- Piling cell by cell.
   pub piled_step : (cs pile : List ℕ) (i : ℕ) → i < length cs → piled rules states (drop i cs) pile ≡ piled rules states (drop (i + 1) cs) (giver rules states (get_or cs i 0) ++ pile)

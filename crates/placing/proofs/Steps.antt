@@ -1,11 +1,11 @@
 -- The steps of a search over a pile that lies in an array and over ways by their index.
-use Rattle.std.proofs.Common.{◌≡◌, ℕ, zero, suc, ◌+◌, ◌-◌, ◌<◌, ◌≤◌, Bool, true, false, cond, ◌&&◌, ◌||◌, eqb, List, ◌∷◌, length, get_or, drop, set, Some, None, Option, sym, refl, ap, ◌∙◌, subst, add-one, arith}
+use Rattle.std.proofs.Common.{◌≡◌, ℕ, zero, suc, ◌+◌, ◌-◌, ◌<◌, ◌≤◌, Bool, true, false, cond, ◌&&◌, ◌||◌, eqb, List, [], ◌∷◌, length, get_or, drop, set, Some, None, Option, sym, refl, ap, ◌∙◌, subst, add-one, arith}
 use lib.Bits.{bit_and, bit_or}
-use Rattle.std.specs.Prelude.{MatchOption, not, count_by}
-use Rattle.std.specs.List.{range_with_len}
+use Rattle.std.specs.Prelude.{not, count_by}
+use Rattle.std.specs.List.{range_with_len, zip}
 use Rattle.std.proofs.lemmas.List.Sums.{sum_by-cons}
 use Rattle.std.proofs.lemmas.List.{drop_more, drop_all, get_or_default}
-use Rattle.std.proofs.lemmas.Bool.{both_ways, and_parts, eqb-true, eq-eqb}
+use Rattle.std.proofs.lemmas.Bool.{both_ways}
 use Rattle.placing.specs.declared.rules.Way.{Way}
 use Rattle.placing.specs.declared.rules.Rule.{Rule}
 use Rattle.placing.specs.declared.rules.State.{State}
@@ -15,7 +15,7 @@ use Rattle.placing.specs.declared.rules.Mark.TheVariants.{Tried}
 use Rattle.placing.specs.Board.{no_way, cells_of, state_of, is_standing, is_waiting}
 use Rattle.placing.specs.Search.{piled, Leads, Tries, Places}
 use Rattle.placing.proofs.States.{in_force_or_waits}
-use Rattle.placing.specs.Calls.{Passes, PassesBehind, Adds, Removes, WaitsAt, same_state, changed_at, changed_from}
+use Rattle.placing.specs.Calls.{Passes, PassesBehind, Adds, Removes, same_state, changed_from}
 
 -- The way at an index of a list, whatever an index past it reads as.
 pub same_way : {items ways : List Way} (i : ℕ) (past : Way) → items ≡ ways → i < length items → get_or items i past ≡ get_or ways i no_way
@@ -55,19 +55,6 @@ module _ (rules : List Rule) (states : List State) (rank : ℕ → ℕ) (r : ℕ
     pub tries_fails : (o : Option (List Mark)) → i < length ways → eqb (bit_and taken way.mask) 0 ≡ true → Try None → TriesFrom (i + 1) o → TriesFrom i o
     tries_fails o lt b d t = at_way o lt (Tries.fails b d (next o t))
 
--- Whether a rule has a rank and waits.
-abbrev pub waits_by : List State → (ℕ → ℕ) → ℕ → ℕ → Bool
-waits_by states rank k x = eqb (rank x) k && is_waiting (state_of states x)
-
--- The first rule of a rank that waits, if there is one, is the waiting rule of the rank.
-pub waits_at : (states : List State) (rank : ℕ → ℕ) (k : ℕ) (o : Option ℕ) → MatchOption o ((x : ℕ) → 0 ≤ x → x < 64 → waits_by states rank k x ≡ false) (λ x. (0 ≤ x) × (x < 64) × (waits_by states rank k x ≡ true) × ((y : ℕ) → 0 ≤ y → y < x → waits_by states rank k y ≡ false)) → WaitsAt states rank k o
-waits_at states rank k (Some x) found = let parts = and_parts (eqb (rank x) k) (is_waiting (state_of states x)) found.2 in (found.1, eqb-true (rank x) k parts.0, parts.1)
-waits_at states rank k None none = λ x lt same. other (eqb (rank x) k) (is_waiting (state_of states x)) (none x (omega arith) lt) (eq-eqb (rank x) k same)
-  where
-    other : (a b : Bool) → (a && b) ≡ false → a ≡ true → b ≡ false
-    other true b e h = e
-    other false b e h = absurd (both_ways _ refl h)
-
 -- The pass by ranks below 64.
 module _ (rules : List Rule) (rank : ℕ → ℕ) where
   abbrev PassesFrom : ℕ → List State → List State → Type 0
@@ -94,17 +81,18 @@ module _ (rules : List Rule) (rank : ℕ → ℕ) where
   pub pass_place : (k x : ℕ) (o : Bool) (s u t : List State) → k < 64 → x < 64 → rank x ≡ k → is_waiting (state_of s x) ≡ true → Places rules s rank x o u → PassesFrom (k + 1) u t → PassesFrom k s t
   pass_place k x o s u t lt small e w p q = one_more k s t lt (Passes.place small e w p (further k u t q))
 
--- The count of changed rules, one by one.
-pub changed_step : (r x : ℕ) (ss ts : List State) → x < length ss → x < length ts → changed_from x r (drop x ss) (drop x ts) ≡ cond (eqb x r || same_state (get_or ss x Absent) (get_or ts x Absent)) 0 1 + changed_from (x + 1) r (drop (x + 1) ss) (drop (x + 1) ts)
-changed_step r x ss ts hs ht =
-    ap (λ (us : List State). changed_from x r us (drop x ts)) (drop_more ss x Absent hs) ∙ ap (changed_from x r (get_or ss x Absent ∷ drop (x + 1) ss)) (drop_more ts x Absent ht)
-    ∙ ap (λ (k : ℕ). cond (eqb x r || same_state (get_or ss x Absent) (get_or ts x Absent)) 0 1 + changed_from k r (drop (x + 1) ss) (drop (x + 1) ts)) (sym (add-one x))
+-- Whether a rule is another than r, and is not what it was.
+abbrev pub is_changed : ℕ → ℕ × (State × State) → Bool
+is_changed r p = not (eqb p.0 r) && not (same_state p.1.0 p.1.1)
 
--- So they are as many as the numbers at which a rule is changed, and no more than there are rules.
-pub changed_counted : (r x n : ℕ) (ss ts : List State) → length ss ≡ x + n → length ts ≡ x + n → count_by (changed_at r ss ts) (range_with_len x n) ≡ changed_from x r (drop x ss) (drop x ts)
-changed_counted r x zero ss ts hs ht = ap (λ (us : List State). changed_from x r us (drop x ts)) (sym (drop_all x ss (omega (arith, hs))))
-changed_counted r x (suc n) ss ts hs ht =
-    sum_by-cons (λ y. cond (changed_at r ss ts y) 1 0) x (range_with_len (x + 1) n) ∙ one (eqb x r) (same_state (get_or ss x Absent) (get_or ts x Absent)) (changed_counted r (x + 1) n ss ts (omega (arith, hs)) (omega (arith, ht))) ∙ sym (changed_step r x ss ts (omega (arith, hs)) (omega (arith, ht)))
+-- The changed rules are counted over the rules' numbers beside both tables.
+pub changed_counted : (r x n : ℕ) (ss ts : List State) → length ss ≤ n → count_by (is_changed r) (zip (range_with_len x n) (zip ss ts)) ≡ changed_from x r ss ts
+changed_counted r x zero [] ts le = refl
+changed_counted r x zero (s ∷ ss) ts le = absurd (omega arith)
+changed_counted r x (suc n) [] ts le = refl
+changed_counted r x (suc n) (s ∷ ss) [] le = refl
+changed_counted r x (suc n) (s ∷ ss) (t ∷ ts) le =
+    sum_by-cons (λ p. cond (is_changed r p) 1 0) (x, (s, t)) (zip (range_with_len (x + 1) n) (zip ss ts)) ∙ one (eqb x r) (same_state s t) (changed_counted r (x + 1) n ss ts (omega arith) ∙ ap (λ (k : ℕ). changed_from k r ss ts) (add-one x))
   where
     one : (a b : Bool) {m k : ℕ} → m ≡ k → cond (not a && not b) 1 0 + m ≡ cond (a || b) 0 1 + k
     one true b e = omega (arith, e)

@@ -1,5 +1,5 @@
 -- The pass down, adding a rule to a board and removing one, as relations.
-use Rattle.std.specs.Prelude.{◌≡◌, ℕ, zero, suc, ◌+◌, ◌-◌, ◌<◌, Bool, true, false, if◌then◌else◌, not, ◌&&◌, ◌||◌, List, [], ◌∷◌, Some, None, Option, ◌==◌, slice_set}
+use Rattle.std.specs.Prelude.{◌≡◌, ℕ, zero, suc, ◌+◌, ◌-◌, ◌<◌, Bool, true, false, if◌then◌else◌, ◌||◌, List, [], ◌∷◌, Some, None, Option, ◌==◌, slice_set}
 use Rattle.placing.specs.declared.rules.Rule.{Rule}
 use Rattle.placing.specs.declared.rules.State.{State}
 use Rattle.placing.specs.declared.rules.State.TheVariants.{Absent, Waiting, InForce}
@@ -39,10 +39,6 @@ same_state Waiting (InForce j) = false
 same_state (InForce i) Absent = false
 same_state (InForce i) Waiting = false
 same_state (InForce i) (InForce j) = i == j
-
--- Whether rule x is another than r, and is not what it was.
-abbrev pub changed_at : ℕ → List State → List State → ℕ → Bool
-changed_at r before after x = not (x == r) && not (same_state (state_of before x) (state_of after x))
 
 -- Of the rules from x on, how many others than r are not what they were.
 abbrev pub changed_from : ℕ → ℕ → List State → List State → ℕ

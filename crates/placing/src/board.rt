@@ -22,7 +22,7 @@ pub struct Board {
 }
 
 /// The answer to an addition: whether the rule is in force, and how many other rules changed on balance.
-// No Option: the number is there in both cases.
+// No Option: what is promised of the number holds of a rule that waits too.
 #[derive(Clone, Copy, PartialEq, Eq, Debug)]
 pub struct Added {
     pub in_force: bool,

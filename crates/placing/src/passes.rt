@@ -1,15 +1,14 @@
 //! Placing one rule, and the pass down the ranks.
 
-ghost use Rattle.std.specs.Prelude.{◌≡◌, ◌-◌, ◌<◌, true, ◌&&◌, ◌==◌, is_some, unwrap_or, slice_set};
+ghost use Rattle.std.specs.Prelude.{◌≡◌, ◌-◌, ◌<◌, true, not, ◌&&◌, ◌==◌, is_some, unwrap_or, slice_set};
 ghost use Rattle.placing.specs.declared.rules.State.TheVariants.{Waiting};
 ghost use Rattle.placing.specs.Board.{state_of, is_standing, is_waiting};
 ghost use Rattle.placing.specs.Search.{applied as applied_to, Places};
 ghost use Rattle.ranks.specs.Numbers.{rank_in};
-ghost use Rattle.placing.specs.Calls.{Passes, PassesBehind, Adds, Removes, WaitsAt, changed_at, changed as changed_by};
+ghost use Rattle.placing.specs.Calls.{Passes, PassesBehind, Adds, Removes, WaitsAt, same_state, changed as changed_by};
 
 use crate::rules::{Mark, RULES, Rule, State, written};
 use crate::search::{Placing, Search, rank_of};
-use meaning::read_or;
 use std::array;
 
 /// The states as the marks make them.
@@ -20,6 +19,7 @@ fn applied(states: &[State; RULES], marks: &[Mark; RULES]) -> [State; RULES]
 }
 
 /// The rules as a pass places them, one after another, and their ranks.
+// The states are no field: they change from one placing to the next.
 #[derive(Clone, Copy)]
 pub(crate) struct Pass<'a> {
     pub rules: &'a [Rule; RULES],
@@ -41,19 +41,15 @@ impl Pass<'_> {
         Some(applied(states, &found))
     }
 
-    /// Whether a rule has this rank and waits.
-    fn waits_at(self, states: &[State; RULES], x: u8, rank: usize) -> bool
-        ensures { result ≡ (rank_in self.entry.ranks.now x == rank && is_waiting (state_of states.now x)) }
-    {
-        usize::from(rank_of(self.ranks, x)) == rank
-            && read_or(states, usize::from(x), State::Absent).is_waiting()
-    }
-
     /// The waiting rule of a rank, if there is one.
     fn waiting_at(self, states: &[State; RULES], rank: usize) -> Option<u8>
         ensures { WaitsAt states.now (rank_in self.entry.ranks.now) rank result }
     {
-        (0..64u8).find(|x| self.waits_at(states, *x, rank))
+        states
+            .iter()
+            .zip(self.ranks)
+            .position(|(state, own)| usize::from(*own) == rank && state.is_waiting())
+            .map(|x| x as u8)
     }
 
     /// Goes down the ranks from one on, and places each rule that waits when it is reached.
@@ -98,20 +94,16 @@ impl Pass<'_> {
     }
 }
 
-/// Whether rule x is another than r, and its way or waiting is different.
-fn is_changed(r: u8, before: &[State; RULES], after: &[State; RULES], x: u8) -> bool
-    ensures { result ≡ changed_at r before.now after.now x }
-{
-    let was = read_or(before, usize::from(x), State::Absent);
-    let is = read_or(after, usize::from(x), State::Absent);
-    x != r && was != is
-}
-
 /// The number of rules other than r whose way or waiting is different.
 pub(crate) fn changed(r: u8, before: &[State; RULES], after: &[State; RULES]) -> u8
     ensures { result ≡ changed_by r before.now after.now }
 {
     (0..64u8)
-        .filter(|x| is_changed(r, before, after, *x))
+        .zip(before.iter().zip(after))
+        .filter(
+            |(x, (was, is))|
+                ensures { result ≡ (not (x.entry.now == r) && not (same_state was.entry.now.now is.entry.now.now)) }
+            { *x != r && was != is },
+        )
         .count() as u8
 }

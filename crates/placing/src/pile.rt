@@ -1,6 +1,6 @@
 //! The pile of a search.
 
-ghost use Rattle.std.specs.Prelude.{◌≡◌, ◌+◌, ◌<◌, ◌≤◌, [], ◌∷◌, length, drop, MatchOption};
+ghost use Rattle.std.specs.Prelude.{◌≡◌, ◌+◌, ◌<◌, ◌≤◌, [], ◌∷◌, length, MatchOption};
 
 /// A pile has room for the placed rule and for six givers of each rule.
 const PILE: usize = 385;
@@ -16,9 +16,11 @@ pub(crate) struct Pile {
 }
 
 impl Pile {
+    ghost use Rattle.placing.specs.Piles.{pile_list};
+
     /// A pile of one rule.
     pub(crate) fn of(x: u8) -> Pile
-        ensures value { drop result.top result.at ≡ x ∷ [] }
+        ensures value { pile_list result ≡ x ∷ [] }
         ensures top { result.top ≡ 384 }
     {
         let mut at = [0; PILE];
@@ -29,7 +31,7 @@ impl Pile {
     /// One rule more on top.
     pub(crate) fn with(self, x: u8) -> Pile
         requires { 0 < self.top }
-        ensures value { drop result.top result.at ≡ x ∷ drop self.top self.at }
+        ensures value { pile_list result ≡ x ∷ pile_list self }
         ensures top { result.top + 1 ≡ self.top }
     {
         let mut at = self.at;
@@ -40,7 +42,7 @@ impl Pile {
 
     /// The top rule and the pile below it, unless the pile is empty.
     pub(crate) fn split(self) -> Option<(u8, Pile)>
-        ensures { MatchOption result (drop self.top self.at ≡ []) (λ p. (drop self.top self.at ≡ p.0 ∷ drop p.1.top p.1.at) × (p.1.top ≡ self.top + 1)) }
+        ensures { MatchOption result (pile_list self ≡ []) (λ p. (pile_list self ≡ p.0 ∷ pile_list p.1) × (p.1.top ≡ self.top + 1)) }
     {
         let x = *self.at.get(self.top)?;
         Some((

@@ -84,6 +84,7 @@ pub enum State {
     InForce(u8),
 }
 
+// The first two are one `matches!` each, under the names that clauses use.
 impl State {
     /// Whether the rule is on the board.
     pub(crate) fn is_standing(self) -> bool

@@ -2,8 +2,7 @@
 
 ghost use Rattle.std.specs.Prelude.{◌≡◌, ◌+◌, ◌*◌, ◌<◌, ◌≤◌, true, [], ◌∷◌, length, replicate, ◌==◌, bit_and, nat_lt, slice_set};
 ghost use Rattle.placing.specs.declared.rules.Mark.TheVariants.{PutOut, Fresh};
-ghost use Rattle.meaning.specs.Masks.{bit};
-ghost use Rattle.placing.specs.Board.{listed, gives};
+ghost use Rattle.placing.specs.Board.{listed};
 ghost use Rattle.placing.specs.Search.{fresh_at, giver as giver_of, piled, one_of, fresh_count, Leads, Tries};
 ghost use Rattle.placing.specs.Piles.{pile_list};
 ghost use Rattle.ranks.specs.Numbers.{rank_in};
@@ -13,22 +12,15 @@ use crate::rules::{Mark, RULES, Rule, State, Way, written};
 use meaning::masks::has_bit;
 use meaning::read_or;
 
-/// Whether a rule of the board gives a cell; past the board there is none.
-fn gives(rules: &[Rule; RULES], states: &[State; RULES], x: u8, cell: u8) -> bool
-    ensures { result ≡ bit (gives rules.now states.now x) cell }
-{
-    let state = read_or(states, usize::from(x), State::Absent);
-    let given = rules
-        .get(usize::from(x))
-        .map_or(0, |rule| rule.given(state));
-    has_bit(given, cell)
-}
-
 /// The rule that gives a cell, if there is one.
 pub(crate) fn giver(rules: &[Rule; RULES], states: &[State; RULES], cell: u8) -> Option<u8>
     ensures { one_of result ≡ giver_of rules.now states.now cell }
 {
-    (0..64u8).find(|x| gives(rules, states, *x, cell))
+    rules
+        .iter()
+        .zip(states)
+        .position(|(rule, state)| has_bit(rule.given(*state), cell))
+        .map(|x| x as u8)
 }
 
 /// Whether a rule is still fresh; past the marks none is.
@@ -36,7 +28,7 @@ fn is_fresh(marks: &[Mark; RULES], x: u8) -> bool
     ensures value { result ≡ fresh_at marks.now x }
     ensures within { result ≡ true → x < 64 }
 {
-    matches!(read_or(marks, usize::from(x), Mark::PutOut), Mark::Fresh)
+    matches!(marks.get(usize::from(x)), Some(Mark::Fresh))
 }
 
 /// The rank of a rule; 0 past the ranks.

@@ -1,5 +1,6 @@
 pub mod Members
 pub mod Numbers
+pub mod Found
 pub mod LeftOver
 pub mod Supplying
 pub mod InOrder
@@ -7,3 +8,4 @@ pub mod Upstream
 pub mod Lawful
 pub mod Held
 pub mod Turns
+pub mod Shown

@@ -1,9 +1,8 @@
--- The numbers that pass a test: which they are, that they rise, and that they are few.
-use Rattle.std.proofs.Common.{◌≡◌, ℕ, zero, suc, ◌+◌, ◌<◌, ◌≤◌, Bool, true, not, ◌&&◌, List, [], ◌∷◌, length, get_or, sym, refl, ◌∙◌, ⊎_elim, arith}
+-- The numbers that pass a test: which they are, and that they rise.
+use Rattle.std.proofs.Common.{◌≡◌, ℕ, zero, suc, ◌+◌, ◌<◌, ◌≤◌, Bool, true, ◌&&◌, List, [], ◌∷◌, length, get_or, sym, refl, ◌∙◌, ⊎_elim, arith}
 use Rattle.std.specs.List.{filter, range_with_len, AllPairs}
 use Rattle.std.proofs.lemmas.Bool.{cases_eq, eq-eqb, ne_eqb, and_parts, and_from}
 use Rattle.std.proofs.lemmas.List.Elements.{filter_agree}
-use Rattle.std.proofs.lemmas.List.Filters.{length-filter_both}
 use Rattle.std.proofs.lemmas.List.FromFn.{get_or-range_with_len}
 use Rattle.std.proofs.lemmas.List.Kept.{AllPairs-filter, AllPairs-from_increasing}
 use Rattle.meaning.specs.Lists.{is_on}
@@ -44,8 +43,3 @@ rules_rise test = AllPairs-filter (λ x y. x < y) test (range_with_len 0 64) (Al
 pub rules_agree : (test test' : ℕ → Bool) → ((x : ℕ) → test x ≡ test' x) → rules_where test ≡ rules_where test'
 unfolding rules_where
 rules_agree test test' agree = filter_agree test test' agree (range_with_len 0 64)
-
--- There are no more of them than rules.
-pub rules_few : (test : ℕ → Bool) → length (rules_where test) ≤ 64
-unfolding rules_where
-rules_few test = omega (arith, length-filter_both test (λ x. not (test x)) (λ _. refl) (range_with_len 0 64))

@@ -4,3 +4,4 @@ pub mod Left
 pub mod Rings
 pub mod Laws
 pub mod RuleLists
+pub mod Showing

@@ -74,8 +74,10 @@ fn rules_in_force(rows: &[Option<Flow>; RULES]) -> RuleList
     ensures { result ≡ rules_where (rule_in_force rows.now) }
 {
     let mut list = RuleList::new();
-    for x in (0..RULES as u8).filter(|x| rows[usize::from(*x)].is_some()) {
-        list.push(x);
+    for (x, row) in (0..RULES as u8).zip(rows) {
+        if row.is_some() {
+            list.push(x);
+        }
     }
     list
 }

@@ -1,8 +1,10 @@
 //! A list of rule numbers, at most sixty-four.
 
-ghost use Rattle.std.specs.Prelude.{◌≡◌, ◌<◌, ◌≤◌, [], ◌∷◌, ◌++◌, length};
+ghost use Rattle.std.specs.Prelude.{◌≡◌, ◌<◌, ◌≤◌, Some, [], ◌∷◌, ◌++◌, length};
+ghost use Rattle.planning.specs.Showing.{numbers_text};
 
 use meaning::RULES;
+use std::fmt;
 use std::marker::Model;
 
 /// At most sixty-four rule numbers: the first `count` of the numbers, with zeros behind them.
@@ -43,6 +45,7 @@ impl RuleList {
     }
 
     /// Puts one number more on the list, at its end.
+    // The count is the list's own, and only here does it rise.
     pub(crate) fn push(&mut self, x: u8)
         requires { length self.old < 64 }
         ensures { self.new ≡ self.old ++ x ∷ [] }
@@ -57,5 +60,18 @@ impl RuleList {
         ensures few { length result.now ≤ 64 }
     {
         &self.numbers[0..self.count]
+    }
+}
+
+/// The numbers in their order, each with one space before it, as in ` 3 2 4`; of an empty list nothing.
+impl fmt::Display for RuleList {
+    ghost output = { λ list. Some (numbers_text list) };
+
+    #[tactic(auto, using(crate::proofs::Shown::more_written, crate::proofs::Shown::all_written))]
+    fn fmt<W: fmt::Write>(&self, f: &mut fmt::Formatter<W>) -> fmt::Result {
+        for x in self.as_slice() {
+            write!(f, " {x}")?;
+        }
+        Ok(())
     }
 }

@@ -1,4 +1,4 @@
--- The turns from here on lead to what all of them lead to.
+-- The turns from here on lead to what all of them lead to, over the caller's own slice.
 use Rattle.std.proofs.Common.{◌≡◌, drop}
 use Rattle.figures.specs.Update.{turns}
 use Rattle.figures.specs.Working.{table_of}

@@ -1,6 +1,11 @@
--- The list holds the rules that were found so far.
-use Rattle.std.proofs.Common.{◌≡◌}
+-- With the rules in force among the rows that are left, the list holds those of all rows.
+use Rattle.std.proofs.Common.{◌≡◌, ◌≤◌, ◌+◌, ◌++◌, length}
+use Rattle.planning.proofs.Found.{found_from}
 use Rattle.planning.proofs.plan.rules_in_force.Given as goal
 
 abbrev pub invariant-loop-x : goal.invariant-loop-x
-invariant-loop-x l = (l.list ≡ l.yielded) × (goal.iterator-loop-x).can_next l.x-iterator × (goal.iterator-loop-x).is_finite l.x-iterator
+invariant-loop-x l =
+    (l.list ++ found_from l.x-iterator.a.start l.x-iterator.b.rest.now ≡ found_from 0 l.rows)
+    × (length l.list ≤ l.x-iterator.a.start)
+    × (l.x-iterator.a.end ≡ 64)
+    × (l.x-iterator.a.start + length l.x-iterator.b.rest.now ≡ 64)

@@ -27,4 +27,4 @@ returns c =
     let causes = c.args.self.now.causes in
     let places = c.places.result.now in
     any_from_yields_List (blank_input mask causes) c.any.new.self _ _ c.any.ensures.ran (YieldsList-from_zip (YieldsList-from_range 0 255 255 c.zip.ensures.first refl) (YieldsList-from_slice places cc)) (λ x b q k. search (rules, tests))
-    ∙ any_blank mask causes 0 255 places c.places.ensures.few ∙ ap (λ (cs : List ℕ). blank_from mask 0 cs causes) c.places.ensures.value
+    ∙ any_blank mask causes 0 255 places (omega (arith, c.places.ensures.few)) ∙ ap (λ (cs : List ℕ). blank_from mask 0 cs causes) c.places.ensures.value

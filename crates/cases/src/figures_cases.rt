@@ -48,7 +48,7 @@ fn work_out<C: Calculator>(
     update(calculator, &rows, &plan, parameters, figures)
 }
 
-/// Whether the cells from 0 on are blank for these causes.
+/// Asserts that the cells from 0 on are blank for these causes.
 fn are_blank(rt: &impl Abort, blanks: &Blanks, due: &[Option<Cause>]) {
     for (cell, cause) in (0..64u8).zip(due) {
         assert_eq!(rt; blanks.cause(cell), *cause);

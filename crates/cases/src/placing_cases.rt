@@ -1,5 +1,6 @@
 //! Placing on small boards: the order of the pile, the method's own published examples, and refusals.
 
+use figures::ways::cell_bit;
 use meaning::{read_or, write_at};
 use placing::board::{Added, Board, Refused};
 use placing::rules::{NO_WAY, RULES, Rule, State, Way};
@@ -9,15 +10,12 @@ use std::array;
 use std::process::Abort;
 
 /// A board with the strengths of its rules.
+// A board is handed ranks, and its caller keeps the strengths that they are made of.
 #[derive(Drop)]
 struct Desk {
     board: Board,
     classes: [u8; RULES],
-}
-
-/// The mask of one cell.
-fn bit(cell: u8) -> u64 {
-    1u64.checked_shl(u32::from(cell)).unwrap_or(0)
+    standing: u64,
 }
 
 /// A way that gives some cells, in this order.
@@ -26,7 +24,7 @@ fn giving(cells: &[u8]) -> Way {
         number: 0,
         outputs: array::from_fn(|i| read_or(cells, i, 0)),
         count: cells.len().min(6) as u8,
-        mask: cells.iter().fold(0, |mask, cell| mask | bit(*cell)),
+        mask: cells.iter().fold(0, |mask, cell| mask | cell_bit(*cell)),
     }
 }
 
@@ -48,25 +46,27 @@ impl Desk {
         Desk {
             board: Board::empty(),
             classes: [Class::Weak.into(); RULES],
+            standing: 0,
         }
     }
 
-    fn ranks(&self, standing: u64) -> Ranks {
-        Ranks::new(&Classes, &self.classes, standing)
+    fn ranks(&self) -> Ranks {
+        Ranks::new(&Classes, &self.classes, self.standing)
     }
 
     fn add(&mut self, r: u8, class: Class, rule: Rule) -> Result<Added, Refused> {
         write_at(&mut self.classes, usize::from(r), class.into());
-        let ranks = self.ranks(self.board.standing_with(r));
+        self.standing |= self.board.standing_with(r);
+        let ranks = self.ranks();
         self.board.add(&ranks, r, rule)
     }
 
     fn remove(&mut self, r: u8) -> Result<u8, Refused> {
-        let ranks = self.ranks(self.board.standing());
+        let ranks = self.ranks();
         self.board.remove(&ranks, r)
     }
 
-    /// Whether the rules from the first on are in force by these ways.
+    /// Asserts that the rules from the first on are in force by these ways.
     fn is_by(&self, rt: &impl Abort, first: u8, ways: &[u8]) {
         for (r, way) in (first..64).zip(ways) {
             assert_eq!(rt; self.board.state(r), State::InForce(*way));

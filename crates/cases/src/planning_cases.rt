@@ -1,5 +1,6 @@
 //! Plans of a few rules: their order, and who is held.
 
+use figures::ways::cell_bit;
 use meaning::{RULES, write_at};
 use planning::flows::Flow;
 use planning::plan::Plan;
@@ -7,9 +8,7 @@ use std::process::Abort;
 
 /// The mask of some cells.
 fn mask_of(cells: &[u8]) -> u64 {
-    cells.iter().fold(0, |mask, cell| {
-        mask | 1u64.checked_shl(u32::from(*cell)).unwrap_or(0)
-    })
+    cells.iter().fold(0, |mask, cell| mask | cell_bit(*cell))
 }
 
 /// A rule that reads some cells and gives one.
@@ -20,7 +19,7 @@ fn flow(inputs: &[u8], output: u8) -> Flow {
     }
 }
 
-/// Whether the rules of these numbers have this plan and these held ones.
+/// Asserts that the rules of these numbers have this plan and these held ones.
 fn plans(rt: &impl Abort, rules: &[(u8, Flow)], order: &[u8], held: &[u8]) {
     let mut rows = [None; RULES];
     for (r, flow) in rules {

@@ -13,7 +13,7 @@ const MEDIUM: u8 = Class::Medium as u8;
 
 const WEAK: u8 = Class::Weak as u8;
 
-/// Whether the rules from 0 on have these ranks.
+/// Asserts that the rules from 0 on have these ranks.
 fn are(rt: &impl Abort, ranks: &Ranks, due: &[u8]) {
     for (rank, wanted) in ranks.numbers().iter().zip(due) {
         assert_eq!(rt; *rank, *wanted);

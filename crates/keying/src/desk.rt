@@ -9,16 +9,16 @@ use placing::board::{Added, Board, Refused};
 use planning::plan::Plan;
 use rankings::Classes;
 use ranks::Ranks;
-use records::row::{NO_ROW, Row};
+use records::row::Row;
 use std::array;
 
 /// Tables by rule number of what was keyed; the board and the plan; and by cell number the figures of the N cells, and why some
 /// are blank.
-// Tables side by side: ranks and updates each take one of them as a slice by rule number.
+// Tables side by side: ranks take the classes as a slice by rule number, and an update the parameters.
 #[derive(Drop)]
 pub struct Desk<C: Calculator, const N: usize> {
     calculator: C,
-    rows: [Row; RULES],
+    rows: [Option<Row>; RULES],
     classes: [u8; RULES],
     parameters: [C::Figure; RULES],
     pub board: Board,
@@ -37,7 +37,7 @@ impl<C: Calculator, const N: usize> Desk<C, N> {
         let blanks = update(&calculator, &ways, &plan, &parameters, &mut figures);
         Desk {
             calculator,
-            rows: [NO_ROW; RULES],
+            rows: [None; RULES],
             classes: [0; RULES],
             parameters,
             board: Board::empty(),
@@ -48,6 +48,7 @@ impl<C: Calculator, const N: usize> Desk<C, N> {
     }
 
     /// Adds a rule and brings the figures up to date. A refusal changes nothing.
+    // A board is handed ranks, and its caller keeps the strengths that they are made of.
     pub fn add(&mut self, r: u8, rule: &Keyed<C::Figure>) -> Result<Added, Refused> {
         let n = usize::from(r);
         let record = rule.record(r);
@@ -56,7 +57,7 @@ impl<C: Calculator, const N: usize> Desk<C, N> {
         let ranks = Ranks::new(&Classes, &classes, self.board.standing_with(r));
         let added = self.board.add(&ranks, r, record.rule(&self.calculator))?;
         self.classes = classes;
-        write_at(&mut self.rows, n, Row::from(&record));
+        write_at(&mut self.rows, n, Some(Row::from(&record)));
         write_at(&mut self.parameters, n, record.parameter);
         self.work_out();
         Ok(added)
@@ -82,7 +83,8 @@ impl<C: Calculator, const N: usize> Desk<C, N> {
 
     /// The selected way of a rule, if it is in force.
     fn selected(&self, r: usize) -> Option<SelectedWay> {
+        let row = self.rows.get(r).copied().flatten()?;
         let way = self.board.way(u8::try_from(r).ok()?)?;
-        Some(self.rows.get(r)?.selected(&way))
+        Some(row.selected(&way))
     }
 }

@@ -7,15 +7,6 @@ use meaning::Calculator;
 use std::fmt::Display;
 use std::io;
 
-/// Prints a word and the numbers of some rules.
-fn print_rules(rt: &HostRuntime, word: &str, rules: &[u8]) -> io::Result<()> {
-    print!(rt; "{word}")?;
-    for r in rules {
-        print!(rt; " {r}")?;
-    }
-    println!(rt; "")
-}
-
 /// Prints a cell: its figure, or why it is blank.
 fn print_cell<F: Display + Copy>(
     rt: &HostRuntime,
@@ -34,8 +25,8 @@ fn print_desk<C: Calculator, const N: usize>(rt: &HostRuntime, desk: &Desk<C, N>
 where
     C::Figure: Display,
 {
-    print_rules(rt, "plan", desk.plan.order.as_slice())?;
-    print_rules(rt, "held", desk.plan.held.as_slice())?;
+    println!(rt; "plan{}", desk.plan.order)?;
+    println!(rt; "held{}", desk.plan.held)?;
     for (cell, figure) in (0..64u8).zip(desk.figures.iter()) {
         print_cell(rt, cell, *figure, desk.blanks.cause(cell))?;
     }

@@ -24,6 +24,7 @@ const NAMES: [&str; 6] = [
 ];
 
 /// A rule of the reel, the way by which it is worked out, and the place that this way gives.
+// Beside the seven rules as they are keyed: a step names its way and its output, and one is tried under another P.
 #[derive(Clone, Copy)]
 struct Rule {
     kind: Kind,
@@ -75,20 +76,23 @@ impl Rule {
         )
     }
 
-    /// The number of the cell at a place, or of none.
-    fn cell_at(&self, place: u8) -> usize {
-        self.places
-            .get(usize::from(place))
-            .map_or(NAMES.len(), |cell| usize::from(*cell))
+    /// The cell at a place, if the rule has the place.
+    fn cell_at(&self, place: u8) -> Option<usize> {
+        let cell = self.places.get(usize::from(place))?;
+        Some(usize::from(*cell))
     }
 
     /// The name of the cell at a place.
     fn name_at(&self, place: u8) -> &'static str {
-        NAMES.get(self.cell_at(place)).copied().unwrap_or("no cell")
+        let Some(cell) = self.cell_at(place) else {
+            return "no cell";
+        };
+        NAMES.get(cell).copied().unwrap_or("no cell")
     }
 }
 
 /// Prints the kind, the way, P and the inputs of a rule.
+// By hand, as the step below: the line is put together from a rule and a table, and one program prints it.
 fn print_question(rt: &HostRuntime, rule: &Rule, table: &[i64]) -> io::Result<()> {
     let kind = u8::from(rule.kind);
     print!(rt; "  {} way {}, P {}:", rule.kind, rule.way, rule.p)?;
@@ -108,7 +112,9 @@ fn step(rt: &HostRuntime, rule: &Rule, table: &mut [i64]) -> io::Result<()> {
     let name = rule.name_at(rule.output);
     match rule.worked_out(table) {
         Ok(figure) => {
-            write_at(table, rule.cell_at(rule.output), figure);
+            if let Some(cell) = rule.cell_at(rule.output) {
+                write_at(table, cell, figure);
+            }
             println!(rt; " so {name} {figure}")
         }
         Err(fault) => println!(rt; " so no {name}, by fault {}", fault.number),

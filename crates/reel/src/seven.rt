@@ -10,6 +10,8 @@ use ranks::Ranks;
 use std::io;
 
 /// Adds the seven rules in the order of their numbers, and prints the board after each.
+// A board is handed ranks, and its caller keeps the strengths that they are made of. It writes to the terminal; an addition and a
+// board print by their `Display`.
 pub fn print_board(rt: &HostRuntime) -> io::Result<()> {
     println!(rt; "the seven rules on a board:")?;
     let mut board = Board::empty();

@@ -1,6 +1,6 @@
 //! The selected way of a rule in force, as working out sees it.
 
-ghost use Rattle.std.specs.Prelude.{◌≡◌, ◌≤◌, length};
+ghost use Rattle.std.specs.Prelude.{◌≡◌, ◌<◌, ◌≤◌, length, None, slice_index_or};
 ghost use Rattle.std.specs.Option.{option_map};
 ghost use Rattle.meaning.specs.Masks.{bit};
 ghost use Rattle.figures.specs.Ways.{places_of, cell_bit, with_cell, flow_of, flows_of};
@@ -9,6 +9,7 @@ pub use meaning::PLACES;
 use meaning::masks::has_bit;
 use meaning::{RULES, front};
 use planning::flows::Flow;
+use std::array;
 
 /// The selected way of a rule in force: the kind, the way's number, the cells that the places name (the first `count`),
 /// and the mask of the outputs, in which bit i stands for place i.
@@ -83,9 +84,10 @@ fn with_cell(flow: Flow, is_output: bool, cell: u8) -> Flow
 pub fn flows(rows: &[Option<SelectedWay>; RULES]) -> [Option<Flow>; RULES]
     ensures { result ≡ flows_of rows.now }
 {
-    rows.map(
-        |row|
-            ensures { result ≡ option_map flow_of row }
-        { row.map(|way| way.flow()) },
+    array::from_fn(
+        |x|
+            requires { x < 64 }
+            ensures { result ≡ option_map flow_of (slice_index_or rows.entry.now x None) }
+        { rows[x].map(|way| way.flow()) },
     )
 }

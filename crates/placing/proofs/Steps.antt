@@ -1,10 +1,10 @@
--- The steps of a search over a pile that lies in an array and over ways by their index.
+-- The steps of a search over ways by their index.
 use Rattle.std.proofs.Common.{◌≡◌, ℕ, zero, suc, ◌+◌, ◌-◌, ◌<◌, ◌≤◌, Bool, true, false, cond, ◌&&◌, ◌||◌, eqb, List, [], ◌∷◌, length, get_or, drop, set, Some, None, Option, sym, refl, ap, ◌∙◌, subst, add-one, arith}
 use lib.Bits.{bit_and, bit_or}
 use Rattle.std.specs.Prelude.{not, count_by}
 use Rattle.std.specs.List.{range_with_len, zip}
 use Rattle.std.proofs.lemmas.List.Sums.{sum_by-cons}
-use Rattle.std.proofs.lemmas.List.{drop_more, drop_all, get_or_default}
+use Rattle.std.proofs.lemmas.List.{drop_more, drop_all}
 use Rattle.std.proofs.lemmas.Bool.{both_ways}
 use Rattle.placing.specs.declared.rules.Way.{Way}
 use Rattle.placing.specs.declared.rules.Rule.{Rule}
@@ -16,10 +16,6 @@ use Rattle.placing.specs.Board.{no_way, cells_of, state_of, is_standing, is_wait
 use Rattle.placing.specs.Search.{piled, Leads, Tries, Places}
 use Rattle.placing.proofs.States.{in_force_or_waits}
 use Rattle.placing.specs.Calls.{Passes, PassesBehind, Adds, Removes, same_state, changed_from}
-
--- The way at an index of a list, whatever an index past it reads as.
-pub same_way : {items ways : List Way} (i : ℕ) (past : Way) → items ≡ ways → i < length items → get_or items i past ≡ get_or ways i no_way
-same_way {items} {ways} i past e lt = get_or_default items i past no_way lt ∙ ap (λ (ws : List Way). get_or ws i no_way) e
 
 module _ (rules : List Rule) (states : List State) (rank : ℕ → ℕ) (r : ℕ) where
   -- The same search by other names.

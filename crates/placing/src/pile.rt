@@ -40,17 +40,12 @@ impl Pile {
         Pile { at, top }
     }
 
-    /// The top rule and the pile below it, unless the pile is empty.
-    pub(crate) fn split(self) -> Option<(u8, Pile)>
-        ensures { MatchOption result (pile_list self ≡ []) (λ p. (pile_list self ≡ p.0 ∷ pile_list p.1) × (p.1.top ≡ self.top + 1)) }
+    /// Takes the top rule off, unless the pile is empty.
+    pub(crate) fn pop(&mut self) -> Option<u8>
+        ensures { MatchOption result ((pile_list self.old ≡ []) × (self.new ≡ self.old)) (λ x. (pile_list self.old ≡ x ∷ pile_list self.new) × (self.new.top ≡ self.old.top + 1)) }
     {
         let x = *self.at.get(self.top)?;
-        Some((
-            x,
-            Pile {
-                at: self.at,
-                top: self.top + 1,
-            },
-        ))
+        self.top += 1;
+        Some(x)
     }
 }

@@ -108,15 +108,11 @@ impl Placing<'_> {
     pub(crate) fn take_off(self, search: Search) -> Option<[Mark; RULES]>
         ensures { Leads self.entry.rules.now self.entry.states.now (rank_in self.entry.ranks.now) self.entry.r (pile_list search.pile) search.marks search.taken result }
     {
-        let Some((x, pile)) = search.pile.split() else {
+        let mut rest = search;
+        let Some(x) = rest.pile.pop() else {
             return Some(search.marks);
         };
-        let rest = Search {
-            pile,
-            marks: search.marks,
-            taken: search.taken,
-        };
-        if !is_fresh(&search.marks, x) {
+        if !is_fresh(&rest.marks, x) {
             return self.take_off(rest);
         }
         if self.ranks_after(x) {
@@ -141,16 +137,19 @@ impl Placing<'_> {
     }
 
     /// Tries the listed ways of a fresh rule in their order, each only if none of its outputs is taken.
+    // By index: the search reads a listed way as the board does, so that one planted error turns the order in both.
     #[cycle(put_out_take_off_try_ways)]
     fn try_ways(self, x: u8, search: Search) -> Option<[Mark; RULES]>
         requires { (fresh_at search.marks x ≡ true) × (x < 64) }
         ensures { Tries self.entry.rules.now self.entry.states.now (rank_in self.entry.ranks.now) self.entry.r x (pile_list search.pile) search.marks search.taken (listed self.entry.rules.now x) 0 result }
     {
-        for (i, way) in self.rules[usize::from(x)].listed().iter().enumerate() {
-            if is_free(search.taken, way) {
+        let rule = &self.rules[usize::from(x)];
+        for i in 0..rule.listed().len() as u8 {
+            let way = rule.way(i);
+            if is_free(search.taken, &way) {
                 let tried = Search {
                     pile: self.with_givers(way.cells(), search.pile),
-                    marks: written(&search.marks, x, Mark::Tried(i as u8)),
+                    marks: written(&search.marks, x, Mark::Tried(i)),
                     taken: search.taken | way.mask,
                 };
                 if let Some(found) = self.take_off(tried) {

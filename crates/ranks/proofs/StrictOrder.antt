@@ -17,7 +17,7 @@ use Rattle.ranks.proofs.Counting.{count_less}
 ltb_self : (x : ℕ) → ltb x x ≡ false
 ltb_self x = le-ltb x x (omega arith)
 
--- What an order says with its two strengths ordering_reverse.
+-- What an order says with its two strengths exchanged.
 not_after_back : (o : Ordering) (t : Bool) → or_number o t ≡ true → is_le o ≡ true
 not_after_back Less t h = refl
 not_after_back Equal t h = refl

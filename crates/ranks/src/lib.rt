@@ -25,6 +25,8 @@ impl Ranks {
     /// The rank numbers of the standing rules, which `standing` has as a mask, under a ranking: rule x ranks before rule y
     /// if its strength is before, or is level and x has the lower number. A rule that does not stand, or whose strength the
     /// table lacks or the ranking does not know, comes behind all others, by number.
+    // Put into its callers: they know the table's length, and without this it is left out of them.
+    #[inline(always)]
     pub fn new<R: Ranking>(ranking: &R, strengths: &[R::Strength], standing: u64) -> Ranks
         ensures value { result.of ≡ rank_list (R.meaning ranking.now) strengths.now standing }
         ensures orders { Orders (R.meaning ranking.now) strengths.now standing (rank_in result.of) }
@@ -99,9 +101,14 @@ impl<R: Ranking> RankOrder<'_, R> {
     }
 
     /// The rank number of a rule: how many rules rank before it.
+    // By a loop: `filter` with `count` takes half as long again.
     fn rank_number(&self, x: u8) -> u8
         ensures { result ≡ rank_number (R.meaning self.now.ranking.now) self.now.strengths.now self.now.standing x }
     {
-        (0..64u8).filter(|y| self.ranks_before(*y, x)).count() as u8
+        let mut count = 0;
+        for y in 0..64u8 {
+            count += u8::from(self.ranks_before(y, x));
+        }
+        count
     }
 }

@@ -1,13 +1,13 @@
-use Rattle.std.proofs.Common.{◌≡◌, ℕ, ◌<◌, eqb, List, length, Some, None, sym, refl, ap, ◌∙◌, arith, rules}
+use Rattle.std.proofs.Common.{◌≡◌, ℕ, ◌<◌, eqb, List, length, get_or, Some, None, sym, refl, ap, ◌∙◌, arith, rules}
 use lib.Bits.{bit_and, bit_or}
 use Rattle.placing.specs.declared.rules.Way.{Way}
 use Rattle.placing.specs.declared.rules.Mark.TheVariants.{PutOut, Tried}
-use Rattle.placing.specs.Board.{cells_of, listed}
+use Rattle.placing.specs.Board.{no_way, cells_of, listed}
 use Rattle.placing.specs.Piles.{pile_list}
 use Rattle.placing.specs.Search.{piled, Leads}
 use Rattle.ranks.specs.Numbers.{rank_in}
 use Rattle.placing.proofs.Marks.{fresh_less, marked_less}
-use Rattle.placing.proofs.Steps.{moved, same_way, tries_spent, tries_barred, tries_leads, tries_fails}
+use Rattle.placing.proofs.Steps.{moved, tries_spent, tries_barred, tries_leads, tries_fails}
 use Rattle.placing.proofs.search.Placing.+put_out_take_off_try_ways.Goals as goal
 use Rattle.placing.proofs.search.Placing.+put_out_take_off_try_ways.Goals.{try_ways-then-is_free+in_default, try_ways-else-is_free}
 
@@ -20,7 +20,7 @@ put_out-take_off-requires t c =
     search rules
 
 pub take_off-returns-in_default : goal.take_off-returns-in_default
-take_off-returns-in_default t c = moved _ _ _ _ (sym c.in_default.ensures) refl refl Leads.empty
+take_off-returns-in_default t c = moved _ _ _ _ (sym c.in_default.ensures.0) refl refl Leads.empty
 
 pub take_off-returns-then-not-is_fresh : goal.take_off-returns-then-not-is_fresh
 take_off-returns-then-not-is_fresh t c =
@@ -56,9 +56,9 @@ try_ways-returns-in-Some t c =
     let ways = listed R c.args.x in
     let pile = pile_list c.args.search.pile in
     let taken = c.args.search.taken in
-    let items : c.listed-way-items.result.now ≡ ways = c.listed-way-items.ensures.value ∙ ap (listed R) c.from.ensures in
+    let items : c.listed.result.now ≡ ways = c.listed.ensures.value ∙ ap (listed R) c.from.ensures in
     let lt : c.loop-i.i < length ways = omega (arith, ap length items, c.loop-i-test.true) in
-    let way = same_way c.loop-i.i _ items c.loop-i-test.true in
+    let way : c.way-way.result ≡ get_or ways c.loop-i.i no_way = c.way-way.ensures ∙ ap (λ (y : ℕ). get_or (listed R y) c.loop-i.i no_way) c.from.ensures in
     let tried = moved R S K c.args.self.r (c.with_givers.ensures.value ∙ ap (λ (cs : List ℕ). piled R S cs pile) (c.cells.ensures.value ∙ ap cells_of way)) c.written.ensures (ap (λ (w : Way). bit_or taken w.mask) way) c.in-Some.ensures in
     c.loop-i.invariant (Some c.in-Some.found) (tries_leads R S K c.args.self.r c.args.x pile c.args.search.marks taken ways c.loop-i.i c.in-Some.found lt (ap (λ (w : Way). eqb (bit_and taken w.mask) 0) (sym way) ∙ sym c.if-is_free.ensures) tried)
 
@@ -70,9 +70,9 @@ try_ways-loop-i-preserved t c o rest =
     let ways = listed R c.args.x in
     let pile = pile_list c.args.search.pile in
     let taken = c.args.search.taken in
-    let items : c.listed-way-items.result.now ≡ ways = c.listed-way-items.ensures.value ∙ ap (listed R) c.from.ensures in
+    let items : c.listed.result.now ≡ ways = c.listed.ensures.value ∙ ap (listed R) c.from.ensures in
     let lt : c.loop-i.i < length ways = omega (arith, ap length items, c.loop-i-test.true) in
-    let way = same_way c.loop-i.i _ items c.loop-i-test.true in
+    let way : c.way-way.result ≡ get_or ways c.loop-i.i no_way = c.way-way.ensures ∙ ap (λ (y : ℕ). get_or (listed R y) c.loop-i.i no_way) c.from.ensures in
     let clear = ap (λ (w : Way). eqb (bit_and taken w.mask) 0) (sym way) in
     c.loop-i.invariant o (elim c.if-is_free.branch [
       | try_ways-then-is_free+in_default w ↦ tries_fails R S K c.args.self.r c.args.x pile c.args.search.marks taken ways c.loop-i.i o lt (clear ∙ sym w.if-is_free.ensures) (moved R S K c.args.self.r (w.with_givers.ensures.value ∙ ap (λ (cs : List ℕ). piled R S cs pile) (w.cells.ensures.value ∙ ap cells_of way)) w.written.ensures (ap (λ (v : Way). bit_or taken v.mask) way) w.in_default.ensures) rest
@@ -83,5 +83,5 @@ pub try_ways-returns : goal.try_ways-returns
 try_ways-returns t c =
     let R = c.args.self.rules.now in
     let ways = listed R c.args.x in
-    let items : c.listed-way-items.result.now ≡ ways = c.listed-way-items.ensures.value ∙ ap (listed R) c.from.ensures in
+    let items : c.listed.result.now ≡ ways = c.listed.ensures.value ∙ ap (listed R) c.from.ensures in
     c.loop-i.invariant None (tries_spent R c.args.self.states.now (rank_in c.args.self.ranks.now) c.args.self.r c.args.x (pile_list c.args.search.pile) c.args.search.marks c.args.search.taken ways c.loop-i.i (omega (arith, ap length items, c.loop-i-test.false)))

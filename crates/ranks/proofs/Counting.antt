@@ -31,7 +31,7 @@ pub count_less : {X : Type 0} (p q : X → Bool) → ((x : X) → p x ≡ true �
 count_less p q sub xs i d lt hq hp =
     omega (arith, sum_by-remove (λ x. one_if (p x)) xs i d lt, sum_by-remove (λ x. one_if (q x)) xs i d lt, sum_by-le-sum_by (λ x. one_if (p x)) (λ x. one_if (q x)) (remove xs i) (λ x. one_if_le (p x) (q x) (sub x)), ap one_if hq, ap one_if hp)
 
--- How many of the numbers below y pass.
+-- How many of the first y of the sixty-four numbers pass.
 unfoldable pub so_far : (ℕ → Bool) → ℕ → ℕ
 so_far p y = count_by p (take y (range_with_len 0 64))
 
